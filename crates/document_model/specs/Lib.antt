@@ -1,0 +1,11 @@
+pub mod Characters
+pub mod Names
+pub mod Items
+pub mod Tree
+pub mod Scopes
+pub mod Documents
+pub mod NodeSets
+pub mod Canonical
+pub mod Insertion
+pub mod Places
+pub mod Methods
