@@ -8,9 +8,9 @@ use Rattle.document_model.specs.Tree.{Path, depth}
 use Rattle.document_model.specs.Documents.{is_in_text}
 use Rattle.document_model.specs.NodeSets.{is_within}
 use Rattle.document_model.specs.Places.{Place, path_of, begins_node}
-use Rattle.doc_spans.specs.declared.Row.{Row}
-use Rattle.doc_spans.specs.declared.Kind.{Kind}
-use Rattle.doc_spans.specs.declared.Kind.TheVariants.{Element}
+use Rattle.doc_spans.specs.declared.rows.Row.{Row}
+use Rattle.doc_spans.specs.declared.rows.Kind.{Kind}
+use Rattle.doc_spans.specs.declared.rows.Kind.TheVariants.{Element}
 use Rattle.doc_spans.specs.Marks.{size, items_of, gone_on, begun, places_after, kinds_after, kind_of_item, Follow, open_path}
 use Rattle.doc_spans.specs.Building as building
 use Rattle.doc_spans.specs.Building.{State, with_next, with_end, parent_of}

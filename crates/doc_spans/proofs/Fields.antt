@@ -1,6 +1,6 @@
 -- A field of one row is changed.
 use Rattle.std.proofs.Common.{◌≡◌, ℕ, zero, suc, ◌<◌, ◌≤◌, List, [], ◌∷◌, length, refl, ap, arith, slice_set, get_or}
-use Rattle.doc_spans.specs.declared.Row.{Row}
+use Rattle.doc_spans.specs.declared.rows.Row.{Row}
 use Rattle.doc_spans.specs.Building.{with_next, with_end, parent_of}
 use Rattle.doc_spans.specs.View.{none}
 

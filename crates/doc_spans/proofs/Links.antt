@@ -5,9 +5,9 @@ use Rattle.std.proofs.lemmas.Bool.{ne_eqb, eq-eqb}
 use Rattle.std.proofs.lemmas.Bool.Decides.{eqb_tells}
 use Rattle.std.specs.Prelude.{slice_get}
 use Rattle.document_model.specs.Items.{Piece}
-use Rattle.doc_spans.specs.declared.Row.{Row}
-use Rattle.doc_spans.specs.declared.Kind.{Kind}
-use Rattle.doc_spans.specs.declared.Kind.TheVariants.{Element}
+use Rattle.doc_spans.specs.declared.rows.Row.{Row}
+use Rattle.doc_spans.specs.declared.rows.Kind.{Kind}
+use Rattle.doc_spans.specs.declared.rows.Kind.TheVariants.{Element}
 use Rattle.doc_spans.specs.Marks.{size, items_of, open_path}
 use Rattle.doc_spans.specs.Building as building
 use Rattle.doc_spans.specs.Building.{State, with_next, with_end, parent_of}

@@ -5,7 +5,7 @@ use Rattle.std.proofs.lemmas.Bool.Decides.{eqb_tells}
 use Rattle.std.specs.Prelude.{map, slice_get}
 use Rattle.document_model.specs.Tree.{Path}
 use Rattle.document_model.specs.Places.{Place}
-use Rattle.doc_spans.specs.declared.Row.{Row}
+use Rattle.doc_spans.specs.declared.rows.Row.{Row}
 use Rattle.doc_spans.specs.View.{siblings, under, paths_of, parents_of, places_of_rows, IsTree}
 use Rattle.doc_spans.specs.Shown.{children_from}
 use Rattle.doc_spans.proofs.Each.{some_is}

@@ -7,8 +7,8 @@ use Rattle.std.specs.Option.{option_map_or}
 use Rattle.std.specs.Prelude.{map, slice_get, IsTrue}
 use Rattle.document_model.specs.Tree.{Path}
 use Rattle.document_model.specs.Places.{Place}
-use Rattle.doc_spans.specs.declared.Row.{Row}
-use Rattle.doc_spans.specs.declared.Kind.{Kind}
+use Rattle.doc_spans.specs.declared.rows.Row.{Row}
+use Rattle.doc_spans.specs.declared.rows.Kind.{Kind}
 use Rattle.doc_spans.specs.View.{none, siblings, under, paths_of, parents_of, place_of_row, placed, places_of_rows, kinds_of_rows, next_from, Distinct, IsTree}
 use Rattle.doc_spans.specs.Shown.{Shown, shown_of, path_at, outer_path, is_child, children_from, children_of, later_children, IsChild, ShowsRow}
 use Rattle.doc_spans.proofs.Each.{some_is, each_get}

@@ -9,8 +9,8 @@ use Rattle.document_model.specs.Tree.{Node, Nodes, Element, Text, Comment, Instr
 use Rattle.document_model.specs.Documents.{is_in_text}
 use Rattle.document_model.specs.Places.{path_of, begins_node}
 use Rattle.document_model.proofs.Grown.{Spine, joined_none, spine_less}
-use Rattle.doc_spans.specs.declared.Kind.TheVariants as kinds
-use Rattle.doc_spans.specs.declared.Shape.TheVariants as shapes
+use Rattle.doc_spans.specs.declared.rows.Kind.TheVariants as kinds
+use Rattle.doc_spans.specs.declared.rows.Shape.TheVariants as shapes
 use Rattle.doc_spans.specs.Marks.{size, items_of, Follow, open_path, kind_of_item, shape_of}
 use Rattle.doc_spans.specs.Building as building
 use Rattle.doc_spans.specs.Building.{State, step, with_end, parent_of}

@@ -7,7 +7,7 @@ use Rattle.std.specs.Prelude.{map, slice_get, nat_eq}
 use Rattle.std.specs.Option.{option_map_or}
 use Rattle.document_model.specs.Tree.{Path}
 use Rattle.document_model.specs.Places.{Place}
-use Rattle.doc_spans.specs.declared.Row.{Row}
+use Rattle.doc_spans.specs.declared.rows.Row.{Row}
 use Rattle.doc_spans.specs.Building.{with_next, with_end, parent_of}
 use Rattle.doc_spans.specs.View.{none, AreBefore}
 use Rattle.doc_spans.specs.View.{siblings, under, paths_from, paths_of, parents_of, place_of_row, placed}

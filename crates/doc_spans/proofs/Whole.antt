@@ -10,7 +10,7 @@ use Rattle.document_model.specs.Scopes.{Tag}
 use Rattle.document_model.specs.NodeSets.{is_within}
 use Rattle.document_model.specs.Documents.{Run, run, limits, open_elements, is_whole, has_element, fault_at, fault_of_run, fault, document_of, End}
 use Rattle.document_model.specs.Places.{Place, places_of, begins_node, path_of}
-use Rattle.doc_spans.specs.declared.Kind.{Kind}
+use Rattle.doc_spans.specs.declared.rows.Kind.{Kind}
 use Rattle.doc_spans.specs.Marks.{size, items_of, begun, places_after, kinds_after, kind_of_item}
 use Rattle.doc_spans.specs.Building.{State}
 use Rattle.doc_spans.specs.View.{Each, places_of_rows, seen_at, IsTree, Distinct}

@@ -1,11 +1,11 @@
 -- How rows grow by one item.
 use Rattle.std.specs.Prelude.{ℕ, zero, suc, Bool, true, false, cond, ◌==◌, List, [], ◌∷◌, ◌++◌, length}
-use Rattle.doc_spans.specs.declared.Row.{Row}
-use Rattle.doc_spans.specs.declared.Kind.{Kind}
-use Rattle.doc_spans.specs.declared.Shape.{Shape}
-use Rattle.doc_spans.specs.declared.Shape.TheVariants.{Nothing, Start, Whole, End, Characters, EmptySection}
-use Rattle.doc_spans.specs.declared.Kind.TheVariants.{Element, Text}
-use Rattle.doc_spans.specs.declared.Builder.{Builder}
+use Rattle.doc_spans.specs.declared.rows.Row.{Row}
+use Rattle.doc_spans.specs.declared.rows.Kind.{Kind}
+use Rattle.doc_spans.specs.declared.rows.Shape.{Shape}
+use Rattle.doc_spans.specs.declared.rows.Shape.TheVariants.{Nothing, Start, Whole, End, Characters, EmptySection}
+use Rattle.doc_spans.specs.declared.rows.Kind.TheVariants.{Element, Text}
+use Rattle.doc_spans.specs.declared.building.Builder.{Builder}
 use Rattle.doc_spans.specs.View.{none}
 
 -- the rows, the open element, the last child in it, whether a text goes on, and how many bytes were read

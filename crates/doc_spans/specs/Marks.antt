@@ -4,10 +4,10 @@ use Rattle.document_model.specs.Items.{Item, Piece, declaration, start_tag, empt
 use Rattle.document_model.specs.Tree.{Path, depth, tree_after, last_path}
 use Rattle.document_model.specs.NodeSets.{is_within}
 use Rattle.document_model.specs.Places.{Place, path_of, begins_node}
-use Rattle.doc_spans.specs.declared.Kind.{Kind}
-use Rattle.doc_spans.specs.declared.Kind.TheVariants.{Element, Text, Comment, Pi}
-use Rattle.doc_spans.specs.declared.Shape.{Shape}
-use Rattle.doc_spans.specs.declared.Shape.TheVariants.{Nothing, Start, Whole, End, Characters, EmptySection}
+use Rattle.doc_spans.specs.declared.rows.Kind.{Kind}
+use Rattle.doc_spans.specs.declared.rows.Kind.TheVariants.{Element, Text, Comment, Pi}
+use Rattle.doc_spans.specs.declared.rows.Shape.{Shape}
+use Rattle.doc_spans.specs.declared.rows.Shape.TheVariants.{Nothing, Start, Whole, End, Characters, EmptySection}
 
 -- how many bytes pieces have, the last one first, and what they say
 abbrev pub size : List Piece → ℕ

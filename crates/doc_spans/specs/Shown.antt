@@ -4,9 +4,9 @@ use Rattle.document_model.specs.Tree.{Node, Path, node_at}
 use Rattle.document_model.specs.Tree as tree
 use Rattle.document_model.specs.Documents.{document_of}
 use Rattle.document_model.specs.Places.{Place, IsTreeOf}
-use Rattle.doc_spans.specs.declared.Row.{Row}
-use Rattle.doc_spans.specs.declared.Kind.{Kind}
-use Rattle.doc_spans.specs.declared.Kind.TheVariants.{Element, Text, Comment, Pi}
+use Rattle.doc_spans.specs.declared.rows.Row.{Row}
+use Rattle.doc_spans.specs.declared.rows.Kind.{Kind}
+use Rattle.doc_spans.specs.declared.rows.Kind.TheVariants.{Element, Text, Comment, Pi}
 use Rattle.std.specs.Option.{option_map_or}
 use Rattle.doc_spans.specs.View.{under, places_of_rows, kinds_of_rows, place_of_row}
 

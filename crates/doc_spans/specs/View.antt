@@ -4,8 +4,8 @@ use Rattle.std.specs.Option.{option_map_or}
 use Rattle.document_model.specs.Tree.{Path}
 use Rattle.document_model.specs.Places.{Place}
 use Rattle.document_model.specs.NodeSets.{is_within}
-use Rattle.doc_spans.specs.declared.Row.{Row}
-use Rattle.doc_spans.specs.declared.Kind.{Kind}
+use Rattle.doc_spans.specs.declared.rows.Row.{Row}
+use Rattle.doc_spans.specs.declared.rows.Kind.{Kind}
 
 -- no number
 abbrev pub none : ℕ

@@ -4,6 +4,7 @@ pub mod Items
 pub mod Tree
 pub mod Scopes
 pub mod Documents
+pub mod Plain
 pub mod NodeSets
 pub mod Canonical
 pub mod Insertion

@@ -2,8 +2,8 @@ use Rattle.std.proofs.Common.{◌≡◌, ◌+◌, ◌≤◌, length, sym, ◌∙
 use Rattle.doc_spans.specs.Shown.{Shown, path_at}
 use Rattle.doc_spans.specs.View.{none}
 use Rattle.doc_spans.proofs.Shows.{Begin, begin_next, begin_none, begin_top, shown_many, top_path, not_next, not_behind}
-use Rattle.doc_spans.proofs.Tree.first_child.Goals as goal
-use Rattle.doc_spans.proofs.Tree.first_child.Goals.{else-next-len-via-then-next-len+else-index-node, else-next-len-via-else-next-len}
+use Rattle.doc_spans.proofs.trees.Tree.first_child.Goals as goal
+use Rattle.doc_spans.proofs.trees.Tree.first_child.Goals.{else-next-len-via-then-next-len+else-index-node, else-next-len-via-else-next-len}
 
 next : (c : goal.Then-index-node) → Begin c.args.self.now c.args.node (c.args.node + 1)
 next c = begin_next c.self.inside.rows.items c.args.self.now c.self.invariant c.self.view_is c.args.node (c.args.node + 1) c.index.result.now

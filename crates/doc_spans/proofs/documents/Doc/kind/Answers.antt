@@ -5,10 +5,10 @@ use Rattle.std.specs.Prelude.{option_map, IfSome}
 use Rattle.document_model.specs.Places.{Place}
 use Rattle.document_model.specs.Tree.{node_at}
 use Rattle.document_model.specs.Documents.{document_of}
-use Rattle.doc_spans.specs.declared.Kind.{Kind}
-use Rattle.doc_spans.specs.declared.Kind.TheVariants.{Element, Text, Comment, Pi}
+use Rattle.doc_spans.specs.declared.rows.Kind.{Kind}
+use Rattle.doc_spans.specs.declared.rows.Kind.TheVariants.{Element, Text, Comment, Pi}
 use Rattle.doc_spans.specs.Shown.{kind_of}
-use Rattle.doc_spans.proofs.Doc.kind.Goals as goal
+use Rattle.doc_spans.proofs.documents.Doc.kind.Goals as goal
 
 -- a kind as a number, and back
 abbrev code : Option Kind → ℕ

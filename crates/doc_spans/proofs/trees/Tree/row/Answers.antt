@@ -1,7 +1,7 @@
 use Rattle.std.proofs.Common.{length, ap, subst, arith}
 use Rattle.doc_spans.specs.Shown.{Shown, ShowsRow}
 use Rattle.doc_spans.proofs.Shows.{shown_many, shows_row, get_from}
-use Rattle.doc_spans.proofs.Tree.row.Goals as goal
+use Rattle.doc_spans.proofs.trees.Tree.row.Goals as goal
 
 pub index-requires : goal.index-requires
 index-requires c =

@@ -1,7 +1,7 @@
 use Rattle.std.proofs.Common.{length, ap, arith}
 use Rattle.doc_spans.specs.Shown.{Shown}
 use Rattle.doc_spans.proofs.Shows.{shown_many}
-use Rattle.doc_spans.proofs.Tree.len.Goals as goal
+use Rattle.doc_spans.proofs.trees.Tree.len.Goals as goal
 
 pub returns : goal.returns
 returns c =
