@@ -31,7 +31,7 @@ head_of (instruction target content) = Some (Instruction target content)
 abbrev pub Names : Nodes → Path → Option Node → Type 0
 Names tree path found = (node : Node) × (node_at tree path ≡ Some node) × (Some (head node) ≡ found)
 
-nth_apart : (nodes : Nodes) (node : Node) → (ends_in_text nodes && is_text node) ≡ false → nth (count nodes) (joined nodes (node ⨾ no_nodes)) ≡ Some node
+pub nth_apart : (nodes : Nodes) (node : Node) → (ends_in_text nodes && is_text node) ≡ false → nth (count nodes) (joined nodes (node ⨾ no_nodes)) ≡ Some node
 nth_apart no_nodes node e = refl
 nth_apart (Element name attributes inner ⨾ no_nodes) node e = refl
 nth_apart (Element name attributes inner ⨾ next ⨾ nodes) node e = nth_apart (next ⨾ nodes) node e
@@ -102,7 +102,7 @@ marks_after (piece ∷ before) =
     let old = map (mark_gone_on (path_of (items_of before) piece.item) (size before) (size (piece ∷ before))) (marks_after before) in
     cond (begins_node (items_of before) piece.item) (old ++ (begun before piece, piece.item) ∷ []) old
 
-same_path : (path : Path) (at behind : ℕ) (place : Place) → (gone_on path at behind place).path ≡ place.path
+pub same_path : (path : Path) (at behind : ℕ) (place : Place) → (gone_on path at behind place).path ≡ place.path
 same_path path at behind place = either (is_within place.path path && nat_eq place.end at)
   where
     either : (b : Bool) → (cond b (record place { end = behind }) place).path ≡ place.path

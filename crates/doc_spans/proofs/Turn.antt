@@ -20,7 +20,7 @@ use Rattle.doc_spans.proofs.Steps.{children, child_count, ends_in_text, is_text,
 use Rattle.doc_spans.proofs.Builds.{Builds, Next, IsNothing, IsLeaf, IsStart, IsEnd, GoesOn}
 use Rattle.doc_spans.proofs.Links.{Built, built_nothing, built_leaf, built_start, built_on, built_end}
 
-abbrev one : List ℕ → Item → Piece
+abbrev pub one : List ℕ → Item → Piece
 one text item = record { text = text; item = item }
 
 -- Items that add nothing.
@@ -40,10 +40,10 @@ count_same : (before : List Item) (item : Item) → Follow before → added_at (
     → count (inside (depth before) (tree_after (item ∷ before))) ≡ child_count before
 count_same before item h e = ap count (stays_in_text before item h e)
 
-path_same : (before : List Item) (item : Item) → Follow before → last_path (depth before) (tree_after (item ∷ before)) ≡ open_path before
+pub path_same : (before : List Item) (item : Item) → Follow before → last_path (depth before) (tree_after (item ∷ before)) ≡ open_path before
 path_same before item h = path_grown (depth before) (added_at (depth before) item) (tree_after before) (spine before h)
 
-is_nothing_declaration : (pieces : List Piece) (text : List ℕ) → Next pieces (one text declaration) → IsNothing pieces (one text declaration)
+pub is_nothing_declaration : (pieces : List Piece) (text : List ℕ) → Next pieces (one text declaration) → IsNothing pieces (one text declaration)
 is_nothing_declaration pieces text n =
     let before = items_of pieces in
     record {
@@ -55,7 +55,7 @@ is_nothing_declaration pieces text n =
       text = λ h. refl;
     }
 
-is_nothing_outside : (pieces : List Piece) (text : List ℕ) (c : ℕ) → Next pieces (one text (character c)) → depth (items_of pieces) ≡ 0 → IsNothing pieces (one text (character c))
+pub is_nothing_outside : (pieces : List Piece) (text : List ℕ) (c : ℕ) → Next pieces (one text (character c)) → depth (items_of pieces) ≡ 0 → IsNothing pieces (one text (character c))
 is_nothing_outside pieces text c n flat =
     let before = items_of pieces in
     record {
@@ -67,7 +67,7 @@ is_nothing_outside pieces text c n flat =
       text = λ h. absurd (omega (arith, flat, h));
     }
 
-is_nothing_section : (pieces : List Piece) (text : List ℕ) → Next pieces (one text (cdata [])) → is_in_text (items_of pieces) ≡ false → IsNothing pieces (one text (cdata []))
+pub is_nothing_section : (pieces : List Piece) (text : List ℕ) → Next pieces (one text (cdata [])) → is_in_text (items_of pieces) ≡ false → IsNothing pieces (one text (cdata []))
 is_nothing_section pieces text n quiet =
     let before = items_of pieces in
     record {
@@ -98,7 +98,7 @@ shallow : (d : ℕ) → 0 < d → cond (nat_eq d 0) 0 (suc d) ≡ suc d
 shallow zero i = absurd (omega arith)
 shallow (suc d) i = ap (λ b. cond b 0 (suc (suc d))) (eqb-suc-zero d)
 
-text_character : (before : List Item) (c : ℕ) → IsText before (character c)
+pub text_character : (before : List Item) (c : ℕ) → IsText before (character c)
 text_character before c = record {
   c = c;
   cs = [];
@@ -112,7 +112,7 @@ text_character before c = record {
   kind = refl;
 }
 
-text_reference : (before : List Item) (c : ℕ) → IsText before (reference c)
+pub text_reference : (before : List Item) (c : ℕ) → IsText before (reference c)
 text_reference before c = record {
   c = c;
   cs = [];
@@ -126,7 +126,7 @@ text_reference before c = record {
   kind = refl;
 }
 
-text_section : (before : List Item) (c : ℕ) (cs : List ℕ) → IsText before (cdata (c ∷ cs))
+pub text_section : (before : List Item) (c : ℕ) (cs : List ℕ) → IsText before (cdata (c ∷ cs))
 text_section before c cs = record {
   c = c;
   cs = cs;
@@ -144,7 +144,7 @@ not_either : (a b : Bool) → b ≡ true → not (a || b) ≡ false
 not_either true b e = refl
 not_either false b e = ap not e
 
-goes_on_text : (pieces : List Piece) (text : List ℕ) (item : Item) → Next pieces (one text item) → Follow (items_of pieces) → IsText (items_of pieces) item
+pub goes_on_text : (pieces : List Piece) (text : List ℕ) (item : Item) → Next pieces (one text item) → Follow (items_of pieces) → IsText (items_of pieces) item
     → 0 < depth (items_of pieces) → is_in_text (items_of pieces) ≡ true → GoesOn pieces (one text item)
 goes_on_text pieces text item n follow t inner going =
     let before = items_of pieces in
@@ -160,7 +160,7 @@ goes_on_text pieces text item n follow t inner going =
       inner = inner;
     }
 
-goes_on_section : (pieces : List Piece) (text : List ℕ) → Next pieces (one text (cdata [])) → is_in_text (items_of pieces) ≡ true → GoesOn pieces (one text (cdata []))
+pub goes_on_section : (pieces : List Piece) (text : List ℕ) → Next pieces (one text (cdata [])) → is_in_text (items_of pieces) ≡ true → GoesOn pieces (one text (cdata []))
 goes_on_section pieces text n going =
     let before = items_of pieces in
     let x = added_at (depth before) (cdata []) in
@@ -184,7 +184,7 @@ count_new : (before : List Item) (item : Item) (node : Node) → Follow before �
 count_new before item node h e apart =
     ap count (more before (added_at (depth before) item) h ∙ ap (joined (children before)) e) ∙ count_apart (children before) node apart
 
-leaf_text : (pieces : List Piece) (text : List ℕ) (item : Item) → Next pieces (one text item) → Follow (items_of pieces) → IsText (items_of pieces) item
+pub leaf_text : (pieces : List Piece) (text : List ℕ) (item : Item) → Next pieces (one text item) → Follow (items_of pieces) → IsText (items_of pieces) item
     → 0 < depth (items_of pieces) → is_in_text (items_of pieces) ≡ false → IsLeaf pieces (one text item) kinds.Text true
 leaf_text pieces text item n follow t inner quiet =
     let before = items_of pieces in
@@ -203,7 +203,7 @@ leaf_text pieces text item n follow t inner quiet =
     starts_text zero b h e = absurd (omega arith)
     starts_text (suc d) b h e = ap (λ x. not (x || b)) (eqb-suc-zero d) ∙ ap not e
 
-leaf_empty : (pieces : List Piece) (text : List ℕ) (name : Name) (attributes : List Attribute) → Follow (items_of pieces)
+pub leaf_empty : (pieces : List Piece) (text : List ℕ) (name : Name) (attributes : List Attribute) → Follow (items_of pieces)
     → IsLeaf pieces (one text (empty_tag name attributes)) kinds.Element false
 leaf_empty pieces text name attributes follow = let before = items_of pieces in record {
   new = record { path = path_begun before (empty_tag name attributes) follow refl; begins = refl };
@@ -215,7 +215,7 @@ leaf_empty pieces text name attributes follow = let before = items_of pieces in 
   no_text = λ h. refl;
 }
 
-leaf_comment : (pieces : List Piece) (text cs : List ℕ) → Follow (items_of pieces) → IsLeaf pieces (one text (comment cs)) kinds.Comment false
+pub leaf_comment : (pieces : List Piece) (text cs : List ℕ) → Follow (items_of pieces) → IsLeaf pieces (one text (comment cs)) kinds.Comment false
 leaf_comment pieces text cs follow = let before = items_of pieces in record {
   new = record { path = path_begun before (comment cs) follow refl; begins = refl };
   kind_is = refl;
@@ -226,7 +226,7 @@ leaf_comment pieces text cs follow = let before = items_of pieces in record {
   no_text = λ h. refl;
 }
 
-leaf_instruction : (pieces : List Piece) (text target content : List ℕ) → Follow (items_of pieces) → IsLeaf pieces (one text (instruction target content)) kinds.Pi false
+pub leaf_instruction : (pieces : List Piece) (text target content : List ℕ) → Follow (items_of pieces) → IsLeaf pieces (one text (instruction target content)) kinds.Pi false
 leaf_instruction pieces text target content follow = let before = items_of pieces in record {
   new = record { path = path_begun before (instruction target content) follow refl; begins = refl };
   kind_is = refl;
@@ -237,7 +237,7 @@ leaf_instruction pieces text target content follow = let before = items_of piece
   no_text = λ h. refl;
 }
 
-starts : (pieces : List Piece) (text : List ℕ) (name : Name) (attributes : List Attribute) → Follow (items_of pieces) → IsStart pieces (one text (start_tag name attributes))
+pub starts : (pieces : List Piece) (text : List ℕ) (name : Name) (attributes : List Attribute) → Follow (items_of pieces) → IsStart pieces (one text (start_tag name attributes))
 starts pieces text name attributes follow = let before = items_of pieces in record {
   new = record { path = path_begun before (start_tag name attributes) follow refl; begins = refl };
   kind_is = refl;
@@ -265,7 +265,7 @@ one_less : (d : ℕ) → 0 < d → d ≡ suc (pred d)
 one_less zero h = absurd (omega arith)
 one_less (suc d) h = refl
 
-ends : (pieces : List Piece) (text : List ℕ) (name : Name) → Next pieces (one text (end_tag name)) → IsEnd pieces (one text (end_tag name))
+pub ends : (pieces : List Piece) (text : List ℕ) (name : Name) → Next pieces (one text (end_tag name)) → IsEnd pieces (one text (end_tag name))
 ends pieces text name n =
     let before = items_of pieces in
     let d = depth before in
