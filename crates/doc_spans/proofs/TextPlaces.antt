@@ -4,12 +4,13 @@ use Rattle.std.proofs.lemmas.Option.{none-some}
 use Rattle.std.proofs.lemmas.Bool.Decides.{eqb_tells}
 use Rattle.std.proofs.lemmas.List.{append-nil}
 use Rattle.std.specs.Prelude.{map, option_map}
-use Rattle.document_model.specs.Items.{Item, Piece, piece_at, declaration, start_tag, empty_tag, end_tag, character, reference, cdata, comment, instruction}
+use Rattle.document_model.specs.Items.{Attribute, Item, Piece, piece_at, declaration, start_tag, empty_tag, end_tag, character, reference, cdata, comment, instruction}
 use Rattle.document_model.specs.Tree.{Node, Nodes, Path, Element, Text, Comment, Instruction, no_nodes, ◌⨾◌, nth, node_at, joined, grown, depth, added_by, added_at, tree_after, last_path, count}
 use Rattle.document_model.specs.Documents.{is_in_text}
 use Rattle.document_model.specs.NodeSets.{is_within}
 use Rattle.document_model.specs.Places.{Place, path_of, begins_node}
-use Rattle.document_model.proofs.Grown.{Spine, grown_none, added_start}
+use Rattle.document_model.proofs.Grown.{Spine, grown_none, added_start, added_end}
+use Rattle.document_model.specs.Names.{Name}
 use Rattle.doc_spans.specs.Marks.{size, items_of, gone_on, begun, places_after, Fits, Follow, open_path}
 use Rattle.doc_spans.specs.Texts.{text_added_by, StandFrom, AreTexts, text_added, IsTextOf}
 use Rattle.doc_spans.specs.View.{Each}
@@ -19,7 +20,7 @@ use Rattle.doc_spans.proofs.Seen.{within_more}
 use Rattle.doc_spans.proofs.Spine.{inside, path_of_last, none_behind, path_grown, inside_grown, at_inside}
 use Rattle.doc_spans.proofs.Stays.{head, stays}
 use Rattle.doc_spans.proofs.Steps.{children, child_count, ends_in_text, is_text, spine, never, text_is_last, begins_text, deep, added_whole, added_comment, added_instruction, path_begun}
-use Rattle.doc_spans.proofs.Named.{Names, named_begun, head_of, IsNode, paths, paths_name, fresh, same_path, nth_apart}
+use Rattle.doc_spans.proofs.Named.{Names, named_begun, head_of, IsNode, paths, paths_name, fresh, same_path, paths_gone_on, new_node}
 use Rattle.doc_spans.proofs.Read.{WereRead}
 use Rattle.doc_spans.proofs.Builds.{Next, IsNothing, IsNew, IsLeaf, IsStart, GoesOn, IsEnd}
 use Rattle.doc_spans.proofs.Turn.{one, added_nothing, added_flat, path_same, is_nothing_declaration, is_nothing_outside, is_nothing_section, IsText, text_character, text_reference, text_section, goes_on_text, goes_on_section, leaf_text, leaf_empty, leaf_comment, leaf_instruction, starts, ends}
@@ -79,6 +80,16 @@ was_text before item path m cs old new =
     let same = stays (depth before) (added_at (depth before) item) (tree_after before) path m old in
     let is = is_text_head m [] (sym (ap (option_map head) new) ∙ same) in
     (is.0, old ∙ ap Some is.1)
+
+-- two texts
+text_is : {a b : List ℕ} → Some (Text a) ≡ Some (Text b) → a ≡ b
+text_is e = ap characters_in (some_is _ _ e)
+  where
+    characters_in : Node → List ℕ
+    characters_in (Text cs) = cs
+    characters_in (Element name attributes inner) = []
+    characters_in (Comment cs) = []
+    characters_in (Instruction target content) = []
 
 -- An item that changes no text.
 
@@ -219,12 +230,211 @@ goes_on_place bytes pieces piece h g t grows added read place ends_at node text 
         let Q : ℕ → Type 0 = λ n. StandFrom bytes place.start n was.0 in
         subst P (sym (gone_on_last (path_of (items_of pieces) piece.item) (size pieces) (size (piece ∷ pieces)) place (same ∙ sym g.path) end_is))
         (was.0 ++ piece ∷ [], stand_more bytes place.start (size pieces) was.0 piece (subst Q end_is was.1) read, texts_more was.0 piece was.2 t, added_more was.0 piece ∙ ap (λ x. x ++ text_added_by piece.item) was.3 ∙ whole)
-      where
-        text_is : {a b : List ℕ} → Some (Text a) ≡ Some (Text b) → a ≡ b
-        text_is e = ap characters_in (some_is _ _ e)
-          where
-            characters_in : Node → List ℕ
-            characters_in (Text cs) = cs
-            characters_in (Element name attributes inner) = []
-            characters_in (Comment cs) = []
-            characters_in (Instruction target content) = []
+
+-- One more piece.
+
+-- the texts of the places of pieces, the last one first
+pub record Turned (bytes : List ℕ) (pieces : List Piece) : Type 0 where
+  pub texts : Each (IsTextOf bytes (tree_after (items_of pieces))) (places_after pieces)
+  pub last : LastEnds pieces
+
+abbrev moved : List Piece → Piece → List Place
+moved pieces piece = map (gone_on (path_of (items_of pieces) piece.item) (size pieces) (size (piece ∷ pieces))) (places_after pieces)
+
+with_begun : (P : Place → Type 0) (pieces : List Piece) (piece : Piece) → Each P (moved pieces piece)
+    → (begins_node (items_of pieces) piece.item ≡ true → P (begun pieces piece)) → Each P (places_after (piece ∷ pieces))
+with_begun P pieces piece old new = go (begins_node (items_of pieces) piece.item) new
+  where
+    go : (b : Bool) → (b ≡ true → P (begun pieces piece)) → Each P (cond b (moved pieces piece ++ begun pieces piece ∷ []) (moved pieces piece))
+    go true n = each_append P (moved pieces piece) (begun pieces piece ∷ []) old (n refl, tt)
+    go false n = old
+
+each_of : {X Y : Type 0} (P : Y → Type 0) (f : X → Y) (xs : List X) → Each P (map f xs) → Each (λ x. P (f x)) xs
+each_of P f [] h = tt
+each_of P f (x ∷ xs) h = (h.0, each_of P f xs h.1)
+
+each_both : {X : Type 0} (P Q : X → Type 0) (xs : List X) → Each P xs → Each Q xs → Each (λ x. P x × Q x) xs
+each_both P Q [] h k = tt
+each_both P Q (x ∷ xs) h k = ((h.0, k.0), each_both P Q xs h.1 k.1)
+
+name_nodes : (pieces : List Piece) → Follow (items_of pieces) → Each (λ place. IsNode (tree_after (items_of pieces)) place.path) (places_after pieces)
+name_nodes pieces h = each_of (IsNode (tree_after (items_of pieces))) (λ place. place.path) (places_after pieces) (paths_name pieces h)
+
+quiet_texts : (bytes : List ℕ) (pieces : List Piece) (piece : Piece) → Follow (items_of pieces) → Quiet (items_of pieces) piece.item → Turned bytes pieces
+    → Each (IsTextOf bytes (tree_after (items_of (piece ∷ pieces)))) (moved pieces piece)
+quiet_texts bytes pieces piece h q was =
+    let tree = tree_after (items_of pieces) in
+    each_map (λ place. IsNode tree place.path × IsTextOf bytes tree place) (IsTextOf bytes (tree_after (items_of (piece ∷ pieces))))
+    (gone_on (path_of (items_of pieces) piece.item) (size pieces) (size (piece ∷ pieces)))
+    (quiet_place bytes (items_of pieces) piece.item (size pieces) (size (piece ∷ pieces)) q) (places_after pieces)
+    (each_both (λ place. IsNode tree place.path) (IsTextOf bytes tree) (places_after pieces) (name_nodes pieces h) was.texts)
+
+no_last : (pieces : List Piece) → (0 < depth (items_of pieces) → is_in_text (items_of pieces) ≡ false) → LastEnds pieces
+no_last pieces quiet inner e = (let f : false ≡ true = sym (quiet inner) ∙ e in (cc))
+
+-- a piece that begins no node and changes no text
+quiet_turn : (bytes : List ℕ) (pieces : List Piece) (piece : Piece) → Follow (items_of pieces) → Quiet (items_of pieces) piece.item
+    → begins_node (items_of pieces) piece.item ≡ false → (0 < depth (items_of (piece ∷ pieces)) → is_in_text (items_of (piece ∷ pieces)) ≡ false)
+    → Turned bytes pieces → Turned bytes (piece ∷ pieces)
+quiet_turn bytes pieces piece h q none quiet was = record {
+  texts = with_begun (IsTextOf bytes (tree_after (items_of (piece ∷ pieces)))) pieces piece (quiet_texts bytes pieces piece h q was) (λ e. (let f : false ≡ true = sym none ∙ e in (cc)));
+  last = no_last (piece ∷ pieces) quiet;
+}
+
+-- a piece that begins a node, which isn't a text
+head_is : (m : Node) (cs : List ℕ) (found : Option Node) → m ≡ Text cs → Some (head m) ≡ found → found ≡ Some (Text [])
+head_is m cs found e f = sym f ∙ ap (λ n. Some (head n)) e
+
+no_new_text : (bytes : List ℕ) (pieces : List Piece) (piece : Piece) → Follow (items_of pieces) → begins_node (items_of pieces) piece.item ≡ true
+    → (head_of piece.item ≡ Some (Text []) → ⊥) → IsTextOf bytes (tree_after (items_of (piece ∷ pieces))) (begun pieces piece)
+no_new_text bytes pieces piece h begins other cs e =
+    let named = named_begun (items_of pieces) piece.item h begins in
+    let at : path_of (items_of pieces) piece.item ≡ open_path (items_of pieces) ++ child_count (items_of pieces) ∷ [] = path_begun (items_of pieces) piece.item h begins in
+    let same : Some named.0 ≡ Some (Text cs) = sym named.1 ∙ ap (node_at (tree_after (items_of (piece ∷ pieces)))) (sym at) ∙ e in
+    absurd (other (head_is named.0 cs (head_of piece.item) (some_is named.0 (Text cs) same) named.2))
+
+new_turn : (bytes : List ℕ) (pieces : List Piece) (piece : Piece) (node : Node) → Follow (items_of pieces) → added_at (depth (items_of pieces)) piece.item ≡ node ⨾ no_nodes
+    → is_text node ≡ false → begins_node (items_of pieces) piece.item ≡ true → (head_of piece.item ≡ Some (Text []) → ⊥)
+    → is_in_text (items_of (piece ∷ pieces)) ≡ false → Turned bytes pieces → Turned bytes (piece ∷ pieces)
+new_turn bytes pieces piece node h one_added other begins apart quiet was =
+    let q = quiet_new (items_of pieces) piece.item node h one_added (λ e. other) (path_begun (items_of pieces) piece.item h begins) in record {
+      texts = with_begun (IsTextOf bytes (tree_after (items_of (piece ∷ pieces)))) pieces piece (quiet_texts bytes pieces piece h q was) (λ e. no_new_text bytes pieces piece h begins apart);
+      last = no_last (piece ∷ pieces) (λ inner. quiet);
+    }
+
+-- a piece that begins a text
+begun_turn : (bytes : List ℕ) (pieces : List Piece) (piece : Piece) (cs : List ℕ) → Follow (items_of pieces) → added_at (depth (items_of pieces)) piece.item ≡ Text cs ⨾ no_nodes
+    → text_added_by piece.item ≡ cs → AreTexts (piece ∷ []) → 0 < depth (items_of pieces) → is_in_text (items_of pieces) ≡ false → begins_node (items_of pieces) piece.item ≡ true
+    → open_path (items_of (piece ∷ pieces)) ≡ open_path (items_of pieces) → child_count (items_of (piece ∷ pieces)) ≡ suc (child_count (items_of pieces))
+    → piece_at (drop (size pieces) bytes) ≡ Some (piece, drop (size (piece ∷ pieces)) bytes) → Turned bytes pieces → Turned bytes (piece ∷ pieces)
+begun_turn bytes pieces piece cs h one_added says t inner quiet begins outer more read was =
+    let before = items_of pieces in
+    let no_text_last : ends_in_text (children before) ≡ false = text_is_last before h inner ∙ quiet in
+    let at : path_of before piece.item ≡ open_path before ++ child_count before ∷ [] = path_begun before piece.item h begins in
+    let q = quiet_new before piece.item (Text cs) h one_added (λ e. (let f : false ≡ true = sym no_text_last ∙ e in (cc))) at in
+    let behind : node_at (tree_after (items_of (piece ∷ pieces))) (path_of before piece.item) ≡ Some (Text cs) =
+    ap (node_at (tree_after (items_of (piece ∷ pieces)))) at ∙ new_node before (added_at (depth before) piece.item) (Text cs) h one_added (ap (λ b. b && true) no_text_last) in
+    let last_is : open_path (items_of (piece ∷ pieces)) ++ pred (child_count (items_of (piece ∷ pieces))) ∷ [] ≡ open_path before ++ child_count before ∷ [] =
+    (λ i. (outer i ++ pred (more i) ∷ [])) in record {
+      texts = with_begun (IsTextOf bytes (tree_after (items_of (piece ∷ pieces)))) pieces piece (quiet_texts bytes pieces piece h q was)
+          (λ e. λ ds found. (piece ∷ [], (read, refl), t, append-nil (text_added_by piece.item) ∙ says ∙ text_is (sym behind ∙ found)));
+      last = λ deeper text. with_begun (λ place. place.path ≡ open_path (items_of (piece ∷ pieces)) ++ pred (child_count (items_of (piece ∷ pieces))) ∷ [] → place.end ≡ size (piece ∷ pieces))
+          pieces piece
+          (each_map (λ place. place.path ≡ open_path before ++ child_count before ∷ [] → ⊥)
+          (λ place. place.path ≡ open_path (items_of (piece ∷ pieces)) ++ pred (child_count (items_of (piece ∷ pieces))) ∷ [] → place.end ≡ size (piece ∷ pieces))
+          (gone_on (path_of before piece.item) (size pieces) (size (piece ∷ pieces)))
+          (λ place other e. absurd (other (sym (same_path (path_of before piece.item) (size pieces) (size (piece ∷ pieces)) place) ∙ e ∙ last_is)))
+          (places_after pieces)
+          (each_of (λ path. path ≡ open_path before ++ child_count before ∷ [] → ⊥) (λ place. place.path) (places_after pieces) (fresh pieces h)))
+          (λ e. λ f. refl);
+    }
+
+-- a piece that goes on with a text
+on_turn : (bytes : List ℕ) (pieces : List Piece) (piece : Piece) → Follow (items_of pieces) → GoesOn pieces piece → AreTexts (piece ∷ []) → Grows (items_of pieces) piece.item
+    → added_at (depth (items_of pieces)) piece.item ≡ no_nodes ⊎ ((cs : List ℕ) × (added_at (depth (items_of pieces)) piece.item ≡ Text cs ⨾ no_nodes))
+    → is_in_text (items_of pieces) ≡ true → piece_at (drop (size pieces) bytes) ≡ Some (piece, drop (size (piece ∷ pieces)) bytes)
+    → Turned bytes pieces → Turned bytes (piece ∷ pieces)
+on_turn bytes pieces piece h g t grows added in_text read was =
+    let before = items_of pieces in
+    let tree = tree_after before in
+    let here = open_path before ++ pred (child_count before) ∷ [] in
+    let ends_at = was.last g.inner in_text in
+    let last_is : open_path (items_of (piece ∷ pieces)) ++ pred (child_count (items_of (piece ∷ pieces))) ∷ [] ≡ here = (λ i. (g.outer i ++ pred (g.count i) ∷ [])) in record {
+      texts = with_begun (IsTextOf bytes (tree_after (items_of (piece ∷ pieces)))) pieces piece
+          (each_map (λ place. (IsNode tree place.path × IsTextOf bytes tree place) × (place.path ≡ here → place.end ≡ size pieces)) (IsTextOf bytes (tree_after (items_of (piece ∷ pieces))))
+          (gone_on (path_of before piece.item) (size pieces) (size (piece ∷ pieces)))
+          (λ place k. goes_on_place bytes pieces piece h g t grows added read place k.1 k.0.0 k.0.1)
+          (places_after pieces)
+          (each_both (λ place. IsNode tree place.path × IsTextOf bytes tree place) (λ place. place.path ≡ here → place.end ≡ size pieces) (places_after pieces)
+          (each_both (λ place. IsNode tree place.path) (IsTextOf bytes tree) (places_after pieces) (name_nodes pieces h) was.texts) ends_at))
+          (λ e. (let f : false ≡ true = sym g.begins ∙ e in (cc)));
+      last = λ deeper text. with_begun (λ place. place.path ≡ open_path (items_of (piece ∷ pieces)) ++ pred (child_count (items_of (piece ∷ pieces))) ∷ [] → place.end ≡ size (piece ∷ pieces))
+          pieces piece
+          (each_map (λ place. place.path ≡ here → place.end ≡ size pieces)
+          (λ place. place.path ≡ open_path (items_of (piece ∷ pieces)) ++ pred (child_count (items_of (piece ∷ pieces))) ∷ [] → place.end ≡ size (piece ∷ pieces))
+          (gone_on (path_of before piece.item) (size pieces) (size (piece ∷ pieces)))
+          (λ place k e.
+          let at : place.path ≡ here = sym (same_path (path_of before piece.item) (size pieces) (size (piece ∷ pieces)) place) ∙ e ∙ last_is in
+          let f : Place → ℕ = λ p. p.end in
+          ap f (gone_on_last (path_of before piece.item) (size pieces) (size (piece ∷ pieces)) place (at ∙ sym g.path) (k at)))
+          (places_after pieces) ends_at)
+          (λ e. (let f : false ≡ true = sym g.begins ∙ e in (cc)));
+    }
+
+-- All pieces.
+
+abbrev first_text : Nodes → List ℕ
+first_text (Text cs ⨾ nodes) = cs
+first_text nodes = []
+
+text_turn : (bytes : List ℕ) (pieces : List Piece) (text : List ℕ) (item : Item) → Next pieces (one text item) → Follow (items_of pieces) → (t : IsText (items_of pieces) item)
+    → AreTexts (one text item ∷ []) → added_by item ≡ Text (text_added_by item) ⨾ no_nodes
+    → (depth (items_of pieces) ≡ 0 → IsNothing pieces (one text item) × (added_at (depth (items_of pieces)) item ≡ no_nodes))
+    → piece_at (drop (size pieces) bytes) ≡ Some (one text item, drop (size (one text item ∷ pieces)) bytes) → Turned bytes pieces → Turned bytes (one text item ∷ pieces)
+text_turn bytes pieces text item n h t parts adds_text outside read was = by_depth (depth (items_of pieces)) refl
+  where
+    says : text_added_by item ≡ t.c ∷ t.cs
+    says = ap first_text (sym adds_text ∙ t.adds)
+
+    inside_turn : 0 < depth (items_of pieces) → (b : Bool) → is_in_text (items_of pieces) ≡ b → Turned bytes (one text item ∷ pieces)
+    inside_turn inner true e =
+        let adds : added_at (depth (items_of pieces)) item ≡ Text (t.c ∷ t.cs) ⨾ no_nodes = deep (depth (items_of pieces)) item inner ∙ t.adds in
+        on_turn bytes pieces (one text item) h (goes_on_text pieces text item n h t inner e) parts
+        (grows_item (items_of pieces) item h (adds ∙ ap (λ cs. Text cs ⨾ no_nodes) (sym says))) (inr (t.c ∷ t.cs, adds)) e read was
+    inside_turn inner false e =
+        let adds : added_at (depth (items_of pieces)) item ≡ Text (t.c ∷ t.cs) ⨾ no_nodes = deep (depth (items_of pieces)) item inner ∙ t.adds in
+        let leaf = leaf_text pieces text item n h t inner e in
+        begun_turn bytes pieces (one text item) (t.c ∷ t.cs) h adds says parts inner e leaf.new.begins leaf.outer leaf.count read was
+
+    by_depth : (d : ℕ) → depth (items_of pieces) ≡ d → Turned bytes (one text item ∷ pieces)
+    by_depth zero e =
+        let o = outside e in
+        quiet_turn bytes pieces (one text item) h (quiet_nothing (items_of pieces) item h o.1 o.0.path) o.0.begins
+        (λ inner. absurd (let l = o.0.level in omega (arith, l, inner, e))) was
+    by_depth (suc d) e = inside_turn (omega (arith, e)) (is_in_text (items_of pieces)) refl
+
+section_turn : (bytes : List ℕ) (pieces : List Piece) (text : List ℕ) → Next pieces (one text (cdata [])) → Follow (items_of pieces)
+    → piece_at (drop (size pieces) bytes) ≡ Some (one text (cdata []), drop (size (one text (cdata []) ∷ pieces)) bytes) → Turned bytes pieces → Turned bytes (one text (cdata []) ∷ pieces)
+section_turn bytes pieces text n h read was = go (is_in_text (items_of pieces)) refl
+  where
+    none : added_at (depth (items_of pieces)) (cdata []) ≡ no_nodes
+    none = deep (depth (items_of pieces)) (cdata []) n.follow.0
+
+    go : (b : Bool) → is_in_text (items_of pieces) ≡ b → Turned bytes (one text (cdata []) ∷ pieces)
+    go true e = on_turn bytes pieces (one text (cdata [])) h (goes_on_section pieces text n e) (tt, tt) (grows_section (items_of pieces) h n.follow.0) (inl none) e read was
+    go false e =
+        let i = is_nothing_section pieces text n e in
+        quiet_turn bytes pieces (one text (cdata [])) h (quiet_nothing (items_of pieces) (cdata []) h none i.path) i.begins (λ inner. i.text n.follow.0) was
+
+no_element : {name : Name} {attributes : List Attribute} {inner : Nodes} → Some (Element name attributes inner) ≡ Some (Text []) → ⊥
+no_element {name} {attributes} {inner} e = (let f : Element name attributes inner ≡ Text [] = some_is _ _ e in (cc))
+
+turn : (bytes : List ℕ) (pieces : List Piece) (text : List ℕ) (item : Item) → Next pieces (one text item) → Follow (items_of pieces)
+    → piece_at (drop (size pieces) bytes) ≡ Some (one text item, drop (size (one text item ∷ pieces)) bytes) → Turned bytes pieces → Turned bytes (one text item ∷ pieces)
+turn bytes pieces text declaration n h read was =
+    let i = is_nothing_declaration pieces text n in
+    quiet_turn bytes pieces (one text declaration) h (quiet_nothing (items_of pieces) declaration h (added_nothing (depth (items_of pieces))) i.path) i.begins
+    (λ inner. absurd (let l = i.level in let f = n.follow.0 in omega (arith, l, inner, f))) was
+turn bytes pieces text (start_tag name attributes) n h read was =
+    new_turn bytes pieces (one text (start_tag name attributes)) (Element name attributes no_nodes) h (added_start (depth (items_of pieces)) name attributes) refl refl no_element refl was
+turn bytes pieces text (empty_tag name attributes) n h read was =
+    new_turn bytes pieces (one text (empty_tag name attributes)) (Element name attributes no_nodes) h (added_whole (depth (items_of pieces)) name attributes) refl refl no_element refl was
+turn bytes pieces text (end_tag name) n h read was =
+    let e = ends pieces text name n in
+    quiet_turn bytes pieces (one text (end_tag name)) h (quiet_nothing (items_of pieces) (end_tag name) h (added_end (depth (items_of pieces)) name) e.path) e.begins (λ inner. e.text) was
+turn bytes pieces text (character c) n h read was =
+    text_turn bytes pieces text (character c) n h (text_character (items_of pieces) c) (tt, tt) refl (λ flat. (is_nothing_outside pieces text c n flat, added_flat (depth (items_of pieces)) c flat)) read was
+turn bytes pieces text (reference c) n h read was =
+    text_turn bytes pieces text (reference c) n h (text_reference (items_of pieces) c) (tt, tt) refl (λ flat. let f = n.follow.0 in absurd (omega (arith, f, flat))) read was
+turn bytes pieces text (cdata []) n h read was = section_turn bytes pieces text n h read was
+turn bytes pieces text (cdata (c ∷ cs)) n h read was =
+    text_turn bytes pieces text (cdata (c ∷ cs)) n h (text_section (items_of pieces) c cs) (tt, tt) refl (λ flat. let f = n.follow.0 in absurd (omega (arith, f, flat))) read was
+turn bytes pieces text (comment cs) n h read was =
+    new_turn bytes pieces (one text (comment cs)) (Comment cs) h (added_comment (depth (items_of pieces)) cs) refl refl (λ e. (let f : Comment cs ≡ Text [] = some_is _ _ e in (cc))) refl was
+turn bytes pieces text (instruction target content) n h read was =
+    new_turn bytes pieces (one text (instruction target content)) (Instruction target content) h (added_instruction (depth (items_of pieces)) target content) refl refl
+    (λ e. (let f : Instruction target content ≡ Text [] = some_is _ _ e in (cc))) refl was
+
+pub texts_turned : (bytes : List ℕ) (pieces : List Piece) (piece : Piece) → Next pieces piece → Follow (items_of pieces)
+    → piece_at (drop (size pieces) bytes) ≡ Some (piece, drop (size (piece ∷ pieces)) bytes) → Turned bytes pieces → Turned bytes (piece ∷ pieces)
+texts_turned bytes pieces piece n h read was = turn bytes pieces piece.text piece.item n h read was
