@@ -22,7 +22,7 @@ use Rattle.doc_spans.proofs.Stays.{head, stays}
 use Rattle.doc_spans.proofs.Steps.{children, child_count, ends_in_text, is_text, spine, never, text_is_last, begins_text, deep, added_whole, added_comment, added_instruction, path_begun}
 use Rattle.doc_spans.proofs.Named.{Names, named_begun, head_of, IsNode, paths, paths_name, fresh, same_path, paths_gone_on, new_node}
 use Rattle.doc_spans.proofs.Read.{WereRead}
-use Rattle.doc_spans.proofs.Builds.{Next, IsNothing, IsNew, IsLeaf, IsStart, GoesOn, IsEnd}
+use Rattle.doc_spans.proofs.Builds.{IsNothing, IsNew, IsLeaf, IsStart, GoesOn, IsEnd}
 use Rattle.doc_spans.proofs.Turn.{one, added_nothing, added_flat, path_same, is_nothing_declaration, is_nothing_outside, is_nothing_section, IsText, text_character, text_reference, text_section, goes_on_text, goes_on_section, leaf_text, leaf_empty, leaf_comment, leaf_instruction, starts, ends}
 use Rattle.doc_spans.proofs.TextNodes.{keeps_text, grows_text, last_inside, at_last_inside, beside_open}
 
@@ -249,11 +249,11 @@ with_begun P pieces piece old new = go (begins_node (items_of pieces) piece.item
     go true n = each_append P (moved pieces piece) (begun pieces piece ∷ []) old (n refl, tt)
     go false n = old
 
-each_of : {X Y : Type 0} (P : Y → Type 0) (f : X → Y) (xs : List X) → Each P (map f xs) → Each (λ x. P (f x)) xs
+pub each_of : {X Y : Type 0} (P : Y → Type 0) (f : X → Y) (xs : List X) → Each P (map f xs) → Each (λ x. P (f x)) xs
 each_of P f [] h = tt
 each_of P f (x ∷ xs) h = (h.0, each_of P f xs h.1)
 
-each_both : {X : Type 0} (P Q : X → Type 0) (xs : List X) → Each P xs → Each Q xs → Each (λ x. P x × Q x) xs
+pub each_both : {X : Type 0} (P Q : X → Type 0) (xs : List X) → Each P xs → Each Q xs → Each (λ x. P x × Q x) xs
 each_both P Q [] h k = tt
 each_both P Q (x ∷ xs) h k = ((h.0, k.0), each_both P Q xs h.1 k.1)
 
@@ -367,7 +367,7 @@ abbrev first_text : Nodes → List ℕ
 first_text (Text cs ⨾ nodes) = cs
 first_text nodes = []
 
-text_turn : (bytes : List ℕ) (pieces : List Piece) (text : List ℕ) (item : Item) → Next pieces (one text item) → Follow (items_of pieces) → (t : IsText (items_of pieces) item)
+text_turn : (bytes : List ℕ) (pieces : List Piece) (text : List ℕ) (item : Item) → Follow (items_of ((one text item) ∷ pieces)) → Follow (items_of pieces) → (t : IsText (items_of pieces) item)
     → AreTexts (one text item ∷ []) → added_by item ≡ Text (text_added_by item) ⨾ no_nodes
     → (depth (items_of pieces) ≡ 0 → IsNothing pieces (one text item) × (added_at (depth (items_of pieces)) item ≡ no_nodes))
     → piece_at (drop (size pieces) bytes) ≡ Some (one text item, drop (size (one text item ∷ pieces)) bytes) → Turned bytes pieces → Turned bytes (one text item ∷ pieces)
@@ -393,28 +393,28 @@ text_turn bytes pieces text item n h t parts adds_text outside read was = by_dep
         (λ inner. absurd (let l = o.0.level in omega (arith, l, inner, e))) was
     by_depth (suc d) e = inside_turn (omega (arith, e)) (is_in_text (items_of pieces)) refl
 
-section_turn : (bytes : List ℕ) (pieces : List Piece) (text : List ℕ) → Next pieces (one text (cdata [])) → Follow (items_of pieces)
+section_turn : (bytes : List ℕ) (pieces : List Piece) (text : List ℕ) → Follow (items_of ((one text (cdata [])) ∷ pieces)) → Follow (items_of pieces)
     → piece_at (drop (size pieces) bytes) ≡ Some (one text (cdata []), drop (size (one text (cdata []) ∷ pieces)) bytes) → Turned bytes pieces → Turned bytes (one text (cdata []) ∷ pieces)
 section_turn bytes pieces text n h read was = go (is_in_text (items_of pieces)) refl
   where
     none : added_at (depth (items_of pieces)) (cdata []) ≡ no_nodes
-    none = deep (depth (items_of pieces)) (cdata []) n.follow.0
+    none = deep (depth (items_of pieces)) (cdata []) n.0
 
     go : (b : Bool) → is_in_text (items_of pieces) ≡ b → Turned bytes (one text (cdata []) ∷ pieces)
-    go true e = on_turn bytes pieces (one text (cdata [])) h (goes_on_section pieces text n e) (tt, tt) (grows_section (items_of pieces) h n.follow.0) (inl none) e read was
+    go true e = on_turn bytes pieces (one text (cdata [])) h (goes_on_section pieces text n e) (tt, tt) (grows_section (items_of pieces) h n.0) (inl none) e read was
     go false e =
         let i = is_nothing_section pieces text n e in
-        quiet_turn bytes pieces (one text (cdata [])) h (quiet_nothing (items_of pieces) (cdata []) h none i.path) i.begins (λ inner. i.text n.follow.0) was
+        quiet_turn bytes pieces (one text (cdata [])) h (quiet_nothing (items_of pieces) (cdata []) h none i.path) i.begins (λ inner. i.text n.0) was
 
 no_element : {name : Name} {attributes : List Attribute} {inner : Nodes} → Some (Element name attributes inner) ≡ Some (Text []) → ⊥
 no_element {name} {attributes} {inner} e = (let f : Element name attributes inner ≡ Text [] = some_is _ _ e in (cc))
 
-turn : (bytes : List ℕ) (pieces : List Piece) (text : List ℕ) (item : Item) → Next pieces (one text item) → Follow (items_of pieces)
+turn : (bytes : List ℕ) (pieces : List Piece) (text : List ℕ) (item : Item) → Follow (items_of ((one text item) ∷ pieces)) → Follow (items_of pieces)
     → piece_at (drop (size pieces) bytes) ≡ Some (one text item, drop (size (one text item ∷ pieces)) bytes) → Turned bytes pieces → Turned bytes (one text item ∷ pieces)
 turn bytes pieces text declaration n h read was =
     let i = is_nothing_declaration pieces text n in
     quiet_turn bytes pieces (one text declaration) h (quiet_nothing (items_of pieces) declaration h (added_nothing (depth (items_of pieces))) i.path) i.begins
-    (λ inner. absurd (let l = i.level in let f = n.follow.0 in omega (arith, l, inner, f))) was
+    (λ inner. absurd (let l = i.level in let f = n.0 in omega (arith, l, inner, f))) was
 turn bytes pieces text (start_tag name attributes) n h read was =
     new_turn bytes pieces (one text (start_tag name attributes)) (Element name attributes no_nodes) h (added_start (depth (items_of pieces)) name attributes) refl refl no_element refl was
 turn bytes pieces text (empty_tag name attributes) n h read was =
@@ -425,16 +425,16 @@ turn bytes pieces text (end_tag name) n h read was =
 turn bytes pieces text (character c) n h read was =
     text_turn bytes pieces text (character c) n h (text_character (items_of pieces) c) (tt, tt) refl (λ flat. (is_nothing_outside pieces text c n flat, added_flat (depth (items_of pieces)) c flat)) read was
 turn bytes pieces text (reference c) n h read was =
-    text_turn bytes pieces text (reference c) n h (text_reference (items_of pieces) c) (tt, tt) refl (λ flat. let f = n.follow.0 in absurd (omega (arith, f, flat))) read was
+    text_turn bytes pieces text (reference c) n h (text_reference (items_of pieces) c) (tt, tt) refl (λ flat. let f = n.0 in absurd (omega (arith, f, flat))) read was
 turn bytes pieces text (cdata []) n h read was = section_turn bytes pieces text n h read was
 turn bytes pieces text (cdata (c ∷ cs)) n h read was =
-    text_turn bytes pieces text (cdata (c ∷ cs)) n h (text_section (items_of pieces) c cs) (tt, tt) refl (λ flat. let f = n.follow.0 in absurd (omega (arith, f, flat))) read was
+    text_turn bytes pieces text (cdata (c ∷ cs)) n h (text_section (items_of pieces) c cs) (tt, tt) refl (λ flat. let f = n.0 in absurd (omega (arith, f, flat))) read was
 turn bytes pieces text (comment cs) n h read was =
     new_turn bytes pieces (one text (comment cs)) (Comment cs) h (added_comment (depth (items_of pieces)) cs) refl refl (λ e. (let f : Comment cs ≡ Text [] = some_is _ _ e in (cc))) refl was
 turn bytes pieces text (instruction target content) n h read was =
     new_turn bytes pieces (one text (instruction target content)) (Instruction target content) h (added_instruction (depth (items_of pieces)) target content) refl refl
     (λ e. (let f : Instruction target content ≡ Text [] = some_is _ _ e in (cc))) refl was
 
-pub texts_turned : (bytes : List ℕ) (pieces : List Piece) (piece : Piece) → Next pieces piece → Follow (items_of pieces)
+pub texts_turned : (bytes : List ℕ) (pieces : List Piece) (piece : Piece) → Follow (items_of (piece ∷ pieces)) → Follow (items_of pieces)
     → piece_at (drop (size pieces) bytes) ≡ Some (piece, drop (size (piece ∷ pieces)) bytes) → Turned bytes pieces → Turned bytes (piece ∷ pieces)
 texts_turned bytes pieces piece n h read was = turn bytes pieces piece.text piece.item n h read was
