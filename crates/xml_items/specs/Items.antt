@@ -1,10 +1,9 @@
 -- An item in the code.
-use Rattle.std.specs.Prelude.{is_some, IsTrue}
 use Rattle.std.specs.Str.{chars}
 use Rattle.document_model.specs.Characters.{with_line_ends}
 use Rattle.document_model.specs.Items as items
-use Rattle.document_model.specs.Items.{Item, most_attributes}
-use Rattle.xml_items.specs.Found.{name_in, attributes_in, read_attributes}
+use Rattle.document_model.specs.Items.{Item}
+use Rattle.xml_items.specs.Found.{name_in, attributes_in, IsNameText, AreAttributesText}
 use Rattle.xml_items.specs.declared.items.Found as code
 use Rattle.xml_items.specs.declared.items.Found.TheVariants.{Declaration, StartTag, EmptyTag, EndTag, Character, Reference, Cdata, Comment, Instruction}
 
@@ -19,12 +18,12 @@ item_in (Cdata text) = items.cdata (with_line_ends (chars text.now))
 item_in (Comment text) = items.comment (with_line_ends (chars text.now))
 item_in (Instruction target content) = items.instruction (chars target.now) (with_line_ends (chars content.now))
 
--- the attributes of a tag are read, so a second pass meets no fault
+-- the names and the attributes of a tag are read, so a second pass meets no fault
 abbrev pub IsRead : code.Found → Type 0
 IsRead Declaration = Unit {0}
-IsRead (StartTag name attributes) = IsTrue (is_some (read_attributes most_attributes (chars attributes.now)))
-IsRead (EmptyTag name attributes) = IsTrue (is_some (read_attributes most_attributes (chars attributes.now)))
-IsRead (EndTag name) = Unit {0}
+IsRead (StartTag name attributes) = IsNameText name.now × AreAttributesText attributes.now
+IsRead (EmptyTag name attributes) = IsNameText name.now × AreAttributesText attributes.now
+IsRead (EndTag name) = IsNameText name.now
 IsRead (Character c) = Unit {0}
 IsRead (Reference c) = Unit {0}
 IsRead (Cdata text) = Unit {0}

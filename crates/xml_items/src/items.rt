@@ -1,9 +1,9 @@
 // The item that a whole text is, kind by kind.
-ghost use Rattle.std.specs.Prelude.{◌≡◌, ◌∷◌, [], option_map, option_and_then, is_some, codes, IfSome, ℕ, List, ◌++◌, ◌+◌, length, IsTrue};
+ghost use Rattle.std.specs.Prelude.{◌≡◌, ◌∷◌, [], option_map, option_and_then, is_some, codes, IfSome, ℕ, List, ◌++◌, ◌+◌, length};
 ghost use Rattle.std.specs.Str.{chars};
 ghost use Rattle.document_model.specs.Characters.{between, with_line_ends};
-ghost use Rattle.document_model.specs.Items.{item_of, character_of, comment, cdata, character, end_tag, reference, instruction, instruction_of, declaration_of, tag_of, start_tag, empty_tag, CommentKind, CdataKind, InstructionKind, EndTagKind, TagKind, ReferenceKind, CharacterKind, most_attributes};
-ghost use Rattle.xml_items.specs.Found.{name_in, attributes_in, read_attributes};
+ghost use Rattle.document_model.specs.Items.{item_of, character_of, comment, cdata, character, end_tag, reference, instruction, instruction_of, declaration_of, tag_of, start_tag, empty_tag, CommentKind, CdataKind, InstructionKind, EndTagKind, TagKind, ReferenceKind, CharacterKind};
+ghost use Rattle.xml_items.specs.Found.{name_in, attributes_in, IsNameText, AreAttributesText};
 ghost use Rattle.xml_items.specs.Items.{item_in, IsRead};
 ghost use Rattle.xml_items.specs.Spans.{StandsAt, IsPlaced};
 ghost use Rattle.xml_items.specs.Kinds.{kind_of};
@@ -46,6 +46,7 @@ pub fn cdata(text: &str) -> Option<&str>
 pub fn end_tag(text: &str) -> Option<&str>
     ensures item { item_of EndTagKind (chars text.now) ≡ option_map (λ name. end_tag (name_in (chars name.now))) result }
     ensures placed { IfSome result (λ name. StandsAt text.now 2 name.now) }
+    ensures read { IfSome result (λ name. IsNameText name.now) }
 {
     let inside = between(text, "</", ">")?;
     let name = without_space_behind(inside);
@@ -192,7 +193,7 @@ fn start_or_empty_tag<'a>(text: &'a str) -> Option<Found<'a>>
 
 fn empty_tag<'a>(text: &'a str) -> Option<(&'a str, &'a str)>
     ensures placed { IfSome result (λ r. StandsAt text.now 1 r.0.now × StandsAt text.now (1 + length r.0.now) r.1.now) }
-    ensures read { IfSome result (λ r. IsTrue (is_some (read_attributes most_attributes (chars r.1.now)))) }
+    ensures read { IfSome result (λ r. IsNameText r.0.now × AreAttributesText r.1.now) }
     ensures item { option_and_then (tag_of empty_tag) (between (codes "<") (codes "/>") (chars text.now)) ≡ option_map (λ r. empty_tag (name_in (chars r.0.now)) (attributes_in (chars r.1.now))) result }
 {
     match between(text, "<", "/>") {
@@ -203,7 +204,7 @@ fn empty_tag<'a>(text: &'a str) -> Option<(&'a str, &'a str)>
 
 fn start_tag<'a>(text: &'a str) -> Option<(&'a str, &'a str)>
     ensures placed { IfSome result (λ r. StandsAt text.now 1 r.0.now × StandsAt text.now (1 + length r.0.now) r.1.now) }
-    ensures read { IfSome result (λ r. IsTrue (is_some (read_attributes most_attributes (chars r.1.now)))) }
+    ensures read { IfSome result (λ r. IsNameText r.0.now × AreAttributesText r.1.now) }
     ensures item { option_and_then (tag_of start_tag) (between (codes "<") (codes ">") (chars text.now)) ≡ option_map (λ r. start_tag (name_in (chars r.0.now)) (attributes_in (chars r.1.now))) result }
 {
     match between(text, "<", ">") {

@@ -4,7 +4,7 @@ ghost use Rattle.std.specs.Str.{chars, IsUtf8};
 ghost use Rattle.document_model.specs.Names.{Name};
 ghost use Rattle.document_model.specs.Characters.{pieces_at, with_blanks, with_line_ends};
 ghost use Rattle.document_model.specs.Items.{Item, Attribute, pair_at, attribute_of, value_of, with_references, tag_of, most_attributes};
-ghost use Rattle.xml_items.specs.Found.{name_in, attributes_in, read_attributes};
+ghost use Rattle.xml_items.specs.Found.{name_in, attributes_in, read_attributes, IsNameText, AreAttributesText};
 ghost use Rattle.xml_items.specs.Pairs.{pair_in};
 
 use crate::classes::{Class, behind_one, first, front};
@@ -98,7 +98,7 @@ pub const MOST_ATTRIBUTES: usize = 256;
 // The name and the attributes of a tag, by what stands between `<` and `>` or `/>`.
 pub fn tag<'a>(text: &'a str) -> Option<(&'a str, &'a str)>
     ensures placed { IfSome result (λ r. (space : List ℕ) × (text.now ≡ r.0.now ++ (r.1.now ++ space))) }
-    ensures read { IfSome result (λ r. IsTrue (is_some (read_attributes most_attributes (chars r.1.now)))) }
+    ensures read { IfSome result (λ r. IsNameText r.0.now × AreAttributesText r.1.now) }
     ensures item { (make : Name → List Attribute → Item) → tag_of make (chars text.now) ≡ option_map (λ r. make (name_in (chars r.0.now)) (attributes_in (chars r.1.now))) result }
 {
     let (name, attributes) = front(without_space_behind(text), Class::NamePartOrColon);
