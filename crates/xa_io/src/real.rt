@@ -23,7 +23,11 @@ pub struct FileShelf<'a, R: Files<File = File>> {
 
 impl<'a, R: Files<File = File>> FileShelf<'a, R> {
     /// A shelf that has counted nothing yet.
-    pub fn new(files: &'a R) -> FileShelf<'a, R> {
+    pub fn new(files: &'a R) -> FileShelf<'a, R>
+        ensures faults { ⟦<FileShelf<'a, R> as Shelf>⟧.faults result ≡ 0 }
+        ensures misses { ⟦<FileShelf<'a, R> as Shelf>⟧.misses result ≡ 0 }
+        ensures gave { ⟦<FileShelf<'a, R> as Shelf>⟧.gave result ≡ 0 }
+    {
         FileShelf {
             files,
             faults: 0,
@@ -77,7 +81,9 @@ pub struct StdSink<W: Write + Drop> {
 
 impl<W: Write + Drop> StdSink<W> {
     /// A sink that has counted no fault yet.
-    pub fn new(to: W) -> StdSink<W> {
+    pub fn new(to: W) -> StdSink<W>
+        ensures { ⟦<StdSink<W> as Sink>⟧.faults result ≡ 0 }
+    {
         StdSink { to, faults: 0 }
     }
 }
