@@ -2,6 +2,7 @@
 -- read apart is this project's own step on the way to all documents.
 use Rattle.std.specs.Prelude.{◌≡◌, ℕ, suc, Bool, true, false, not, ◌&&◌, ◌||◌, ◌==◌, nat_le, if◌then◌else◌, List, [], ◌∷◌, Option, Some, None, option_map}
 use Rattle.document_model.specs.Characters.{begins_with}
+use Rattle.document_model.specs.Tree.{Node, Element, Text, Comment, Instruction}
 use Rattle.document_model.specs.Items.{Item, declaration, start_tag, empty_tag, end_tag, character, reference, cdata, comment, instruction}
 
 -- a byte that a plain document may have: ASCII, but no `&`, `=`, `:` and CR
@@ -31,3 +32,10 @@ IsPlainPiece (empty_tag name attributes) text = (name.prefix ≡ []) × (attribu
 IsPlainPiece (end_tag name) text = Unit {0}
 IsPlainPiece (character c) text = text ≡ c ∷ []
 IsPlainPiece item text = ⊥
+
+-- a node of a plain document: an element without prefix, attributes and declarations, or a text
+abbrev pub IsPlainNode : Node → Type 0
+IsPlainNode (Element name attributes nodes) = (name.prefix ≡ []) × (attributes ≡ [])
+IsPlainNode (Text cs) = Unit {0}
+IsPlainNode (Comment cs) = ⊥
+IsPlainNode (Instruction target content) = ⊥
