@@ -47,12 +47,12 @@ places_stand bytes =
     (subst P (sym (places_of_run bytes))
     (each_weaker (EndsBy (size (onto pieces []))) (λ place. place.end ≤ length bytes) (λ place e. omega (arith, e, n, joined, parts)) (places_after (onto pieces [])) (ended (onto pieces []))))
 
-all_of_each : {X : Type 0} (P : X → Type 0) (xs : List X) → Each P xs → All P xs
+pub all_of_each : {X : Type 0} (P : X → Type 0) (xs : List X) → Each P xs → All P xs
 all_of_each P [] h k d lt = absurd (omega (arith, lt))
 all_of_each P (x ∷ xs) h zero d lt = h.0
 all_of_each P (x ∷ xs) h (suc k) d lt = all_of_each P xs h.1 k d (omega (arith, lt))
 
-each_of_all : {X : Type 0} (P : X → Type 0) (xs : List X) → All P xs → Each P xs
+pub each_of_all : {X : Type 0} (P : X → Type 0) (xs : List X) → All P xs → Each P xs
 each_of_all P [] h = tt
 each_of_all P (x ∷ xs) h = (h zero x (omega arith), each_of_all P xs (λ k d lt. h (suc k) d (omega (arith, lt))))
 

@@ -1,10 +1,10 @@
 -- What a clause sees of a document: its bytes, the tree that they spell, and which node each number names.
-use Rattle.std.specs.Prelude.{ℕ, ◌<◌, List, [], ◌++◌, length, Option, None, Some, slice_get}
+use Rattle.std.specs.Prelude.{ℕ, zero, suc, ◌<◌, List, [], ◌∷◌, ◌++◌, length, Option, None, Some, slice_get}
 use Rattle.std.specs.Option.{option_map_or}
 use Rattle.doc_spans.specs.declared.documents.Doc.{Doc}
 use Rattle.doc_spans.specs.declared.documents.NodeId.{NodeId}
 use Rattle.document_model.specs.Names.{spelled}
-use Rattle.document_model.specs.Tree.{Node, Nodes, Path, Element, Text, Comment, Instruction, no_nodes, node_at, below, count}
+use Rattle.document_model.specs.Tree.{Node, Nodes, Path, Element, Text, Comment, Instruction, no_nodes, node_at, below}
 use Rattle.document_model.specs.Places.{Place}
 use Rattle.document_model.specs.Documents.{document_of}
 use Rattle.doc_spans.specs.Shown.{Shown, path_at}
@@ -33,9 +33,19 @@ place_in doc node = slice_get (shown_in doc).places node.0
 abbrev pub node_in : Doc → NodeId → Option Node
 node_in doc node = node_at (document_in doc) (path_in doc node)
 
--- what a node holds
-abbrev pub nodes_below : Doc → NodeId → Nodes
-nodes_below doc node = option_map_or below (node_in doc node) no_nodes
+-- the nodes right below a path, where the empty path names the document
+abbrev pub nodes_at : Nodes → Path → Nodes
+nodes_at document [] = document
+nodes_at document (k ∷ path) = option_map_or below (node_at document (k ∷ path)) no_nodes
+
+-- the paths of so many children, from the i-th on
+abbrev pub paths_below : Path → ℕ → ℕ → List Path
+paths_below outer i zero = []
+paths_below outer i (suc n) = (outer ++ i ∷ []) ∷ paths_below outer (suc i) n
+
+-- the nodes that a node holds
+abbrev pub nodes_in : Doc → NodeId → Nodes
+nodes_in doc node = nodes_at (document_in doc) (path_in doc node)
 
 -- the name of an element as it is written, or the target of a PI
 abbrev pub name_of_node : Node → List ℕ

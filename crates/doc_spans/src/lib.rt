@@ -5,10 +5,12 @@ mod building;
 mod child_nodes;
 mod documents;
 mod rows;
+mod texts;
 mod trees;
 
 pub use building::Builder;
 pub use child_nodes::Children;
 pub use documents::{Doc, NodeId, Span};
 pub use rows::{Kind, Row, Shape};
+pub use texts::{Piece, Pieces};
 pub use trees::Tree;
