@@ -10,7 +10,8 @@ use Rattle.document_model.specs.Documents.{run, limits, document_of}
 use Rattle.document_model.specs.Places.{Place, places_of}
 use Rattle.doc_spans.specs.Marks.{items_of, places_after}
 use Rattle.doc_spans.specs.Shown.{Shown, IsShownOf, path_at, is_child, children_from, children_of}
-use Rattle.doc_spans.specs.Seen.{nodes_at, paths_below}
+use Rattle.doc_spans.specs.Seen.{nodes_at}
+use Rattle.doc_spans.specs.Below.{paths_below}
 use Rattle.doc_spans.specs.View.{Each, under}
 use Rattle.doc_spans.proofs.AllNamed.{Has, all_named}
 use Rattle.doc_spans.proofs.Each.{each_get, some_is}

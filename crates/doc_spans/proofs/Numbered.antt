@@ -7,7 +7,7 @@ use Rattle.document_model.specs.Tree.{Path}
 use Rattle.document_model.specs.Places.{Place}
 use Rattle.doc_spans.specs.declared.rows.Row.{Row}
 use Rattle.doc_spans.specs.View.{siblings, under, paths_of, parents_of, places_of_rows, IsTree}
-use Rattle.doc_spans.specs.Seen.{paths_below}
+use Rattle.doc_spans.specs.Below.{paths_below}
 use Rattle.doc_spans.specs.Shown.{children_from}
 use Rattle.doc_spans.proofs.Each.{some_is}
 use Rattle.doc_spans.proofs.View.{get_inside, parents_many, has_paths, under_get}
