@@ -4,11 +4,15 @@
 mod building;
 mod child_nodes;
 mod documents;
+mod faults;
+mod open_tags;
 mod rows;
+mod standing;
 mod trees;
 
 pub use building::Builder;
 pub use child_nodes::Children;
 pub use documents::{Doc, NodeId, Span};
+pub use faults::DocFault;
 pub use rows::{Kind, Row, Shape};
 pub use trees::Tree;

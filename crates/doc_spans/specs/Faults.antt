@@ -1,0 +1,36 @@
+-- The faults of a text in the code, their numbers and places.
+use Rattle.std.specs.Prelude.{ℕ, Option, Some, None}
+use Rattle.document_model.specs.Documents as documents
+use Rattle.document_model.specs.Documents.{Fault, BadItem, TooMany}
+use Rattle.doc_spans.specs.declared.faults.DocFault.{DocFault}
+use Rattle.doc_spans.specs.declared.faults.DocFault.TheVariants.{Item, Doctype, Depth, Nodes, End, OutOfMemory, NotBuilt}
+
+-- the number of a fault, for a line that tells of it
+abbrev pub fault_number : DocFault → ℕ
+fault_number (Item at) = 1
+fault_number (Doctype at) = 2
+fault_number (Depth at) = 3
+fault_number (Nodes at) = 4
+fault_number End = 5
+fault_number OutOfMemory = 6
+fault_number (NotBuilt at) = 7
+
+-- and its place
+abbrev pub fault_place : DocFault → Option ℕ
+fault_place (Item at) = Some at
+fault_place (Doctype at) = Some at
+fault_place (Depth at) = Some at
+fault_place (Nodes at) = Some at
+fault_place End = None
+fault_place OutOfMemory = None
+fault_place (NotBuilt at) = Some at
+
+-- the fault of the bytes that a fault in the code says, where it says one
+abbrev pub fault_in : DocFault → Option Fault
+fault_in (Item at) = Some (BadItem at)
+fault_in (Doctype at) = Some (documents.Doctype at)
+fault_in (Depth at) = Some (documents.Depth at)
+fault_in (Nodes at) = Some (TooMany at)
+fault_in End = Some documents.End
+fault_in OutOfMemory = None
+fault_in (NotBuilt at) = None
