@@ -45,20 +45,22 @@ nth_apart (Text cs ⨾ no_nodes) (Text ds) e = cc
 nth_apart (Text cs ⨾ no_nodes) (Comment ds) e = refl
 nth_apart (Text cs ⨾ no_nodes) (Instruction target content) e = refl
 
--- a node that is added names itself
-named_new : (before : List Item) (x : Nodes) (node : Node) (found : Option Node) → Follow before → x ≡ node ⨾ no_nodes → (ends_in_text (children before) && is_text node) ≡ false
-    → Some (head node) ≡ found → Names (grown (depth before) x (tree_after before)) (open_path before ++ child_count before ∷ []) found
-named_new before x node found h e apart is =
+-- a node that is added stands behind the children of the open element
+pub new_node : (before : List Item) (x : Nodes) (node : Node) → Follow before → x ≡ node ⨾ no_nodes → (ends_in_text (children before) && is_text node) ≡ false
+    → node_at (grown (depth before) x (tree_after before)) (open_path before ++ child_count before ∷ []) ≡ Some node
+new_node before x node h e apart =
     let d = depth before in
     let tree = tree_after before in
-    let s = spine before h in (
-      node,
-      ap (λ p. node_at (grown d x tree) (p ++ child_count before ∷ [])) (sym (path_grown d x tree s))
-          ∙ at_inside d (grown d x tree) (child_count before) [] (spine_stays d x tree s)
-          ∙ ap (λ ns. option_and_then (descend []) (nth (child_count before) ns)) (inside_grown d x tree s ∙ ap (joined (children before)) e)
-          ∙ ap (option_and_then (descend [])) (nth_apart (children before) node apart),
-      is,
-    )
+    let s = spine before h in
+    ap (λ p. node_at (grown d x tree) (p ++ child_count before ∷ [])) (sym (path_grown d x tree s))
+    ∙ at_inside d (grown d x tree) (child_count before) [] (spine_stays d x tree s)
+    ∙ ap (λ ns. option_and_then (descend []) (nth (child_count before) ns)) (inside_grown d x tree s ∙ ap (joined (children before)) e)
+    ∙ ap (option_and_then (descend [])) (nth_apart (children before) node apart)
+
+-- and names itself
+named_new : (before : List Item) (x : Nodes) (node : Node) (found : Option Node) → Follow before → x ≡ node ⨾ no_nodes → (ends_in_text (children before) && is_text node) ≡ false
+    → Some (head node) ≡ found → Names (grown (depth before) x (tree_after before)) (open_path before ++ child_count before ∷ []) found
+named_new before x node found h e apart is = (node, new_node before x node h e apart, is)
 
 named_text : (before : List Item) (c : ℕ) (cs : List ℕ) (item : Item) → Follow before → not (nat_eq (depth before) 0 || is_in_text before) ≡ true
     → added_by item ≡ Text (c ∷ cs) ⨾ no_nodes → Names (tree_after (item ∷ before)) (open_path before ++ child_count before ∷ []) (Some (Text []))
@@ -102,7 +104,7 @@ marks_after (piece ∷ before) =
     let old = map (mark_gone_on (path_of (items_of before) piece.item) (size before) (size (piece ∷ before))) (marks_after before) in
     cond (begins_node (items_of before) piece.item) (old ++ (begun before piece, piece.item) ∷ []) old
 
-same_path : (path : Path) (at behind : ℕ) (place : Place) → (gone_on path at behind place).path ≡ place.path
+pub same_path : (path : Path) (at behind : ℕ) (place : Place) → (gone_on path at behind place).path ≡ place.path
 same_path path at behind place = either (is_within place.path path && nat_eq place.end at)
   where
     either : (b : Bool) → (cond b (record place { end = behind }) place).path ≡ place.path

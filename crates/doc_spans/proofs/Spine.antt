@@ -14,7 +14,7 @@ inside (suc d) nodes = option_map_or (λ node. inside d (below node)) (last_of n
 at_some : {A B : Type 0} (f : A → B) (o : Option A) (d : B) (x : A) → o ≡ Some x → option_map_or f o d ≡ f x
 at_some f o d x e = ap (λ p. option_map_or f p d) e
 
-same_either_way : {A B : Type 0} (b : B) (o : Option A) → option_map_or (λ x. b) o b ≡ b
+pub same_either_way : {A B : Type 0} (b : B) (o : Option A) → option_map_or (λ x. b) o b ≡ b
 same_either_way b None = refl
 same_either_way b (Some x) = refl
 

@@ -20,7 +20,7 @@ use Rattle.doc_spans.proofs.Steps.{children, child_count, ends_in_text, is_text,
 use Rattle.doc_spans.proofs.Builds.{Builds, Next, IsNothing, IsLeaf, IsStart, IsEnd, GoesOn}
 use Rattle.doc_spans.proofs.Links.{Built, built_nothing, built_leaf, built_start, built_on, built_end}
 
-abbrev one : List ℕ → Item → Piece
+abbrev pub one : List ℕ → Item → Piece
 one text item = record { text = text; item = item }
 
 -- Items that add nothing.
@@ -40,41 +40,41 @@ count_same : (before : List Item) (item : Item) → Follow before → added_at (
     → count (inside (depth before) (tree_after (item ∷ before))) ≡ child_count before
 count_same before item h e = ap count (stays_in_text before item h e)
 
-path_same : (before : List Item) (item : Item) → Follow before → last_path (depth before) (tree_after (item ∷ before)) ≡ open_path before
+pub path_same : (before : List Item) (item : Item) → Follow before → last_path (depth before) (tree_after (item ∷ before)) ≡ open_path before
 path_same before item h = path_grown (depth before) (added_at (depth before) item) (tree_after before) (spine before h)
 
-is_nothing_declaration : (pieces : List Piece) (text : List ℕ) → Next pieces (one text declaration) → IsNothing pieces (one text declaration)
+pub is_nothing_declaration : (pieces : List Piece) (text : List ℕ) → Follow (items_of ((one text declaration) ∷ pieces)) → IsNothing pieces (one text declaration)
 is_nothing_declaration pieces text n =
     let before = items_of pieces in
     record {
-      path = sym (flat_path (depth before) (tree_after before) n.follow.0);
+      path = sym (flat_path (depth before) (tree_after before) n.0);
       begins = refl;
-      outer = path_same before declaration n.follow.1;
-      count = count_same before declaration n.follow.1 (added_nothing (depth before));
+      outer = path_same before declaration n.1;
+      count = count_same before declaration n.1 (added_nothing (depth before));
       level = refl;
       text = λ h. refl;
     }
 
-is_nothing_outside : (pieces : List Piece) (text : List ℕ) (c : ℕ) → Next pieces (one text (character c)) → depth (items_of pieces) ≡ 0 → IsNothing pieces (one text (character c))
+pub is_nothing_outside : (pieces : List Piece) (text : List ℕ) (c : ℕ) → Follow (items_of ((one text (character c)) ∷ pieces)) → depth (items_of pieces) ≡ 0 → IsNothing pieces (one text (character c))
 is_nothing_outside pieces text c n flat =
     let before = items_of pieces in
     record {
       path = ap (λ d. last_path (cond (nat_eq d 0) 0 (suc d)) (tree_after (character c ∷ before))) flat ∙ sym (flat_path (depth before) (tree_after before) flat);
       begins = ap (λ d. not (nat_eq d 0 || is_in_text before)) flat;
-      outer = path_same before (character c) n.follow.1;
-      count = count_same before (character c) n.follow.1 (added_flat (depth before) c flat);
+      outer = path_same before (character c) n.1;
+      count = count_same before (character c) n.1 (added_flat (depth before) c flat);
       level = refl;
       text = λ h. absurd (omega (arith, flat, h));
     }
 
-is_nothing_section : (pieces : List Piece) (text : List ℕ) → Next pieces (one text (cdata [])) → is_in_text (items_of pieces) ≡ false → IsNothing pieces (one text (cdata []))
+pub is_nothing_section : (pieces : List Piece) (text : List ℕ) → Follow (items_of ((one text (cdata [])) ∷ pieces)) → is_in_text (items_of pieces) ≡ false → IsNothing pieces (one text (cdata []))
 is_nothing_section pieces text n quiet =
     let before = items_of pieces in
     record {
-      path = ap (λ t. last_path (cond t (suc (depth before)) (depth before)) (tree_after (cdata [] ∷ before))) quiet ∙ path_same before (cdata []) n.follow.1;
+      path = ap (λ t. last_path (cond t (suc (depth before)) (depth before)) (tree_after (cdata [] ∷ before))) quiet ∙ path_same before (cdata []) n.1;
       begins = refl;
-      outer = path_same before (cdata []) n.follow.1;
-      count = count_same before (cdata []) n.follow.1 (deep (depth before) (cdata []) n.follow.0);
+      outer = path_same before (cdata []) n.1;
+      count = count_same before (cdata []) n.1 (deep (depth before) (cdata []) n.0);
       level = refl;
       text = λ h. quiet;
     }
@@ -98,7 +98,7 @@ shallow : (d : ℕ) → 0 < d → cond (nat_eq d 0) 0 (suc d) ≡ suc d
 shallow zero i = absurd (omega arith)
 shallow (suc d) i = ap (λ b. cond b 0 (suc (suc d))) (eqb-suc-zero d)
 
-text_character : (before : List Item) (c : ℕ) → IsText before (character c)
+pub text_character : (before : List Item) (c : ℕ) → IsText before (character c)
 text_character before c = record {
   c = c;
   cs = [];
@@ -112,7 +112,7 @@ text_character before c = record {
   kind = refl;
 }
 
-text_reference : (before : List Item) (c : ℕ) → IsText before (reference c)
+pub text_reference : (before : List Item) (c : ℕ) → IsText before (reference c)
 text_reference before c = record {
   c = c;
   cs = [];
@@ -126,7 +126,7 @@ text_reference before c = record {
   kind = refl;
 }
 
-text_section : (before : List Item) (c : ℕ) (cs : List ℕ) → IsText before (cdata (c ∷ cs))
+pub text_section : (before : List Item) (c : ℕ) (cs : List ℕ) → IsText before (cdata (c ∷ cs))
 text_section before c cs = record {
   c = c;
   cs = cs;
@@ -144,7 +144,7 @@ not_either : (a b : Bool) → b ≡ true → not (a || b) ≡ false
 not_either true b e = refl
 not_either false b e = ap not e
 
-goes_on_text : (pieces : List Piece) (text : List ℕ) (item : Item) → Next pieces (one text item) → Follow (items_of pieces) → IsText (items_of pieces) item
+pub goes_on_text : (pieces : List Piece) (text : List ℕ) (item : Item) → Follow (items_of ((one text item) ∷ pieces)) → Follow (items_of pieces) → IsText (items_of pieces) item
     → 0 < depth (items_of pieces) → is_in_text (items_of pieces) ≡ true → GoesOn pieces (one text item)
 goes_on_text pieces text item n follow t inner going =
     let before = items_of pieces in
@@ -160,21 +160,21 @@ goes_on_text pieces text item n follow t inner going =
       inner = inner;
     }
 
-goes_on_section : (pieces : List Piece) (text : List ℕ) → Next pieces (one text (cdata [])) → is_in_text (items_of pieces) ≡ true → GoesOn pieces (one text (cdata []))
+pub goes_on_section : (pieces : List Piece) (text : List ℕ) → Follow (items_of ((one text (cdata [])) ∷ pieces)) → is_in_text (items_of pieces) ≡ true → GoesOn pieces (one text (cdata []))
 goes_on_section pieces text n going =
     let before = items_of pieces in
     let x = added_at (depth before) (cdata []) in
-    let none_added = deep (depth before) (cdata []) n.follow.0 in
+    let none_added = deep (depth before) (cdata []) n.0 in
     record {
       path = ap (λ t. last_path (cond t (suc (depth before)) (depth before)) (tree_after (cdata [] ∷ before))) going
-          ∙ behind before x n.follow.1
+          ∙ behind before x n.1
           ∙ ap (λ ns. open_path before ++ pred (count ns) ∷ []) (ap (joined (children before)) none_added ∙ joined_none (children before));
       begins = refl;
-      outer = path_same before (cdata []) n.follow.1;
-      count = count_same before (cdata []) n.follow.1 none_added;
+      outer = path_same before (cdata []) n.1;
+      count = count_same before (cdata []) n.1 none_added;
       level = refl;
       text = going;
-      inner = n.follow.0;
+      inner = n.0;
     }
 
 -- Nodes.
@@ -184,7 +184,7 @@ count_new : (before : List Item) (item : Item) (node : Node) → Follow before �
 count_new before item node h e apart =
     ap count (more before (added_at (depth before) item) h ∙ ap (joined (children before)) e) ∙ count_apart (children before) node apart
 
-leaf_text : (pieces : List Piece) (text : List ℕ) (item : Item) → Next pieces (one text item) → Follow (items_of pieces) → IsText (items_of pieces) item
+pub leaf_text : (pieces : List Piece) (text : List ℕ) (item : Item) → Follow (items_of ((one text item) ∷ pieces)) → Follow (items_of pieces) → IsText (items_of pieces) item
     → 0 < depth (items_of pieces) → is_in_text (items_of pieces) ≡ false → IsLeaf pieces (one text item) kinds.Text true
 leaf_text pieces text item n follow t inner quiet =
     let before = items_of pieces in
@@ -203,7 +203,7 @@ leaf_text pieces text item n follow t inner quiet =
     starts_text zero b h e = absurd (omega arith)
     starts_text (suc d) b h e = ap (λ x. not (x || b)) (eqb-suc-zero d) ∙ ap not e
 
-leaf_empty : (pieces : List Piece) (text : List ℕ) (name : Name) (attributes : List Attribute) → Follow (items_of pieces)
+pub leaf_empty : (pieces : List Piece) (text : List ℕ) (name : Name) (attributes : List Attribute) → Follow (items_of pieces)
     → IsLeaf pieces (one text (empty_tag name attributes)) kinds.Element false
 leaf_empty pieces text name attributes follow = let before = items_of pieces in record {
   new = record { path = path_begun before (empty_tag name attributes) follow refl; begins = refl };
@@ -215,7 +215,7 @@ leaf_empty pieces text name attributes follow = let before = items_of pieces in 
   no_text = λ h. refl;
 }
 
-leaf_comment : (pieces : List Piece) (text cs : List ℕ) → Follow (items_of pieces) → IsLeaf pieces (one text (comment cs)) kinds.Comment false
+pub leaf_comment : (pieces : List Piece) (text cs : List ℕ) → Follow (items_of pieces) → IsLeaf pieces (one text (comment cs)) kinds.Comment false
 leaf_comment pieces text cs follow = let before = items_of pieces in record {
   new = record { path = path_begun before (comment cs) follow refl; begins = refl };
   kind_is = refl;
@@ -226,7 +226,7 @@ leaf_comment pieces text cs follow = let before = items_of pieces in record {
   no_text = λ h. refl;
 }
 
-leaf_instruction : (pieces : List Piece) (text target content : List ℕ) → Follow (items_of pieces) → IsLeaf pieces (one text (instruction target content)) kinds.Pi false
+pub leaf_instruction : (pieces : List Piece) (text target content : List ℕ) → Follow (items_of pieces) → IsLeaf pieces (one text (instruction target content)) kinds.Pi false
 leaf_instruction pieces text target content follow = let before = items_of pieces in record {
   new = record { path = path_begun before (instruction target content) follow refl; begins = refl };
   kind_is = refl;
@@ -237,7 +237,7 @@ leaf_instruction pieces text target content follow = let before = items_of piece
   no_text = λ h. refl;
 }
 
-starts : (pieces : List Piece) (text : List ℕ) (name : Name) (attributes : List Attribute) → Follow (items_of pieces) → IsStart pieces (one text (start_tag name attributes))
+pub starts : (pieces : List Piece) (text : List ℕ) (name : Name) (attributes : List Attribute) → Follow (items_of pieces) → IsStart pieces (one text (start_tag name attributes))
 starts pieces text name attributes follow = let before = items_of pieces in record {
   new = record { path = path_begun before (start_tag name attributes) follow refl; begins = refl };
   kind_is = refl;
@@ -265,19 +265,19 @@ one_less : (d : ℕ) → 0 < d → d ≡ suc (pred d)
 one_less zero h = absurd (omega arith)
 one_less (suc d) h = refl
 
-ends : (pieces : List Piece) (text : List ℕ) (name : Name) → Next pieces (one text (end_tag name)) → IsEnd pieces (one text (end_tag name))
+pub ends : (pieces : List Piece) (text : List ℕ) (name : Name) → Follow (items_of ((one text (end_tag name)) ∷ pieces)) → IsEnd pieces (one text (end_tag name))
 ends pieces text name n =
     let before = items_of pieces in
     let d = depth before in
     let same = closing name before in
-    let found = last_is d (tree_after before) n.follow.0 (spine before n.follow.1) in
+    let found = last_is d (tree_after before) n.0 (spine before n.1) in
     let P : Nodes → Type 0 = λ tree. 0 < count (inside (pred d) tree) in
     record {
-      path = path_same before (end_tag name) n.follow.1;
+      path = path_same before (end_tag name) n.1;
       begins = refl;
       outer = found.0 ∙ ap (λ tree. last_path (pred d) tree ++ pred (count (inside (pred d) tree)) ∷ []) (sym same);
       count = subst P (sym same) found.1;
-      level = one_less d n.follow.0;
+      level = one_less d n.0;
       text = refl;
       path_some = λ h e. some_path (pred d) (tree_after (end_tag name ∷ before)) h e;
       path_none = λ h. flat_path (pred d) (tree_after (end_tag name ∷ before)) h;
@@ -307,7 +307,7 @@ text_turn s pieces text item b n follow t outside = by_text s.in_text refl
         let P : Bool → Type 0 = λ x. Built (cond x (record s { at = size (one text item ∷ pieces) })
         (record (building.begun kinds.Text (size (one text item ∷ pieces)) s) { in_text = true })) (one text item ∷ pieces) in
         subst P (sym (ne_eqb s.current none (λ f. omega (arith, f, small, b.0.few, b.0.small))))
-        (built_leaf s pieces (one text item) kinds.Text true b n (leaf_text pieces text item n follow t deeper (sym (b.0.text deeper) ∙ quiet)))
+        (built_leaf s pieces (one text item) kinds.Text true b n (leaf_text pieces text item n.follow follow t deeper (sym (b.0.text deeper) ∙ quiet)))
 
     by_text : (x : Bool) → s.in_text ≡ x → Built (step shapes.Characters (size (one text item ∷ pieces)) s) (one text item ∷ pieces)
     by_text true e =
@@ -315,7 +315,7 @@ text_turn s pieces text item b n follow t outside = by_text s.in_text refl
         (cond (nat_eq s.current none) (record s { at = size (one text item ∷ pieces) })
         (record (building.begun kinds.Text (size (one text item ∷ pieces)) s) { in_text = true }))) (one text item ∷ pieces) in
         let deeper = inner (depth (items_of pieces)) b.0.no_text e in
-        subst P (sym e) (built_on s pieces (one text item) b n (goes_on_text pieces text item n follow t deeper (sym (b.0.text deeper) ∙ e)) e)
+        subst P (sym e) (built_on s pieces (one text item) b n (goes_on_text pieces text item n.follow follow t deeper (sym (b.0.text deeper) ∙ e)) e)
     by_text false e =
         let P : Bool → Type 0 = λ x. Built (cond x (building.gone_on (size (one text item ∷ pieces)) s)
         (cond (nat_eq s.current none) (record s { at = size (one text item ∷ pieces) })
@@ -329,20 +329,20 @@ section_turn s pieces text b n = by_text s.in_text refl
     by_text : (x : Bool) → s.in_text ≡ x → Built (step shapes.EmptySection (size (one text (cdata []) ∷ pieces)) s) (one text (cdata []) ∷ pieces)
     by_text true e =
         let P : Bool → Type 0 = λ x. Built (cond x (building.gone_on (size (one text (cdata []) ∷ pieces)) s) (record s { at = size (one text (cdata []) ∷ pieces) })) (one text (cdata []) ∷ pieces) in
-        subst P (sym e) (built_on s pieces (one text (cdata [])) b n (goes_on_section pieces text n (sym (b.0.text n.follow.0) ∙ e)) e)
+        subst P (sym e) (built_on s pieces (one text (cdata [])) b n (goes_on_section pieces text n.follow (sym (b.0.text n.follow.0) ∙ e)) e)
     by_text false e =
         let P : Bool → Type 0 = λ x. Built (cond x (building.gone_on (size (one text (cdata []) ∷ pieces)) s) (record s { at = size (one text (cdata []) ∷ pieces) })) (one text (cdata []) ∷ pieces) in
-        subst P (sym e) (built_nothing s pieces (one text (cdata [])) b n (is_nothing_section pieces text n (sym (b.0.text n.follow.0) ∙ e)) e)
+        subst P (sym e) (built_nothing s pieces (one text (cdata [])) b n (is_nothing_section pieces text n.follow (sym (b.0.text n.follow.0) ∙ e)) e)
 
 turn : (s : State) (pieces : List Piece) (text : List ℕ) (item : Item) → Built s pieces → Next pieces (one text item)
     → Built (step (shape_of item) (size (one text item ∷ pieces)) s) (one text item ∷ pieces)
-turn s pieces text declaration b n = built_nothing s pieces (one text declaration) b n (is_nothing_declaration pieces text n) (b.0.no_text n.follow.0)
+turn s pieces text declaration b n = built_nothing s pieces (one text declaration) b n (is_nothing_declaration pieces text n.follow) (b.0.no_text n.follow.0)
 turn s pieces text (start_tag name attributes) b n = built_start s pieces (one text (start_tag name attributes)) b n (starts pieces text name attributes n.follow.1)
 turn s pieces text (empty_tag name attributes) b n =
     built_leaf s pieces (one text (empty_tag name attributes)) kinds.Element false b n (leaf_empty pieces text name attributes n.follow.1)
-turn s pieces text (end_tag name) b n = built_end s pieces (one text (end_tag name)) b n (ends pieces text name n)
+turn s pieces text (end_tag name) b n = built_end s pieces (one text (end_tag name)) b n (ends pieces text name n.follow)
 turn s pieces text (character c) b n =
-    text_turn s pieces text (character c) b n n.follow.1 (text_character (items_of pieces) c) (λ flat. is_nothing_outside pieces text c n flat)
+    text_turn s pieces text (character c) b n n.follow.1 (text_character (items_of pieces) c) (λ flat. is_nothing_outside pieces text c n.follow flat)
 turn s pieces text (reference c) b n =
     text_turn s pieces text (reference c) b n n.follow.1 (text_reference (items_of pieces) c) (λ flat. let h = n.follow.0 in absurd (omega (arith, h, flat)))
 turn s pieces text (cdata []) b n = section_turn s pieces text b n

@@ -1,0 +1,9 @@
+pub mod Bytes
+pub mod Causes
+pub mod Shelf
+pub mod Sink
+pub mod Listed
+pub mod HeldFiles
+pub mod Memory
+pub mod Sure
+pub mod Tlv
