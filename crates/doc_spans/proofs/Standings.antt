@@ -1,13 +1,12 @@
 -- What is kept of the items before a place decides what may follow them.
-use Rattle.std.proofs.Common.{◌≡◌, ℕ, zero, suc, ◌+◌, Bool, true, false, not, ◌&&◌, ◌||◌, cond, nat_eq, nat_le, List, [], ◌∷◌, length, Option, Some, None, refl, sym, ◌∙◌, ap, arith}
+use Rattle.std.proofs.Common.{◌≡◌, ℕ, ◌+◌, not, ◌&&◌, ◌||◌, cond, nat_eq, nat_le, List, [], ◌∷◌, Option, Some, None, refl, sym, ◌∙◌, ap}
 use Rattle.std.specs.Prelude.{option_and_then, codes}
 use Rattle.std.specs.List.{starts_with}
 use Rattle.document_model.specs.Characters.{is_empty}
 use Rattle.document_model.specs.Items.{Item, Piece, declaration, start_tag, empty_tag, end_tag, character, reference, cdata, comment, instruction, piece_at, when}
 use Rattle.document_model.specs.Tree.{depth}
-use Rattle.document_model.specs.Scopes.{Tag}
-use Rattle.document_model.specs.Documents.{open_elements, has_element, may_follow, limits, is_too_deep, is_in_text, text_nodes, new_nodes, nodes_of, has_too_many, legal, legal_within, Fault, Doctype, Depth, TooMany, otherwise_legal, fault_at}
-use Rattle.doc_spans.specs.Standing.{Standing, standing_of, may_stand, is_deep, new_texts, nodes_added, is_one_too_many, legal_here, legal_within_here, limit_fault, fault_here, after}
+use Rattle.document_model.specs.Documents.{open_elements, has_element, may_follow, limits, is_too_deep, is_in_text, text_nodes, new_nodes, nodes_of, has_too_many, legal, legal_within, Doctype, Depth, TooMany, otherwise_legal, fault_at}
+use Rattle.doc_spans.specs.Standing.{standing_of, may_stand, is_deep, new_texts, nodes_added, is_one_too_many, legal_here, legal_within_here, limit_fault, fault_here, after}
 use Rattle.doc_spans.proofs.Run.{opens}
 use Rattle.doc_spans.proofs.Tags.{none_open}
 

@@ -1,13 +1,15 @@
 -- The tags of the elements that are open, as a stack.
-use Rattle.std.proofs.Common.{◌≡◌, ℕ, zero, suc, ◌+◌, ◌-◌, Bool, true, false, not, ◌&&◌, ◌||◌, ◌==◌, cond, nat_eq, List, [], ◌∷◌, ◌++◌, length, drop, Option, Some, None, refl, sym, ◌∙◌, ap, arith}
-use Rattle.std.proofs.lemmas.Bool.{ne_eqb, true≢false, false≢true}
+use Rattle.std.proofs.Common.{◌≡◌, ℕ, suc, ◌+◌, ◌-◌, Bool, true, false, not, ◌||◌, ◌==◌, cond, nat_eq, List, [], ◌∷◌, ◌++◌, length, drop, Option, Some, None, refl, sym, ◌∙◌, ap, arith}
+use Rattle.std.proofs.lemmas.Bool.{ne_eqb}
 use Rattle.std.proofs.lemmas.List.{append-nil}
 use Rattle.std.proofs.lemmas.Option.{none-some}
 use Rattle.std.specs.Prelude.{slice_get, option_to_list}
-use Rattle.document_model.specs.Characters.{is_empty, begins_with, with_line_ends}
+use Rattle.document_model.specs.Characters.{is_empty, with_line_ends}
 use Rattle.document_model.specs.Items.{cdata}
-use Rattle.document_model.specs.Scopes.{Tag, is_sound}
+use Rattle.document_model.specs.Scopes.{Tag}
 use Rattle.doc_spans.specs.declared.open_tags.OpenTag.{OpenTag}
+use Rattle.doc_spans.specs.declared.rows.Shape.TheVariants.{EmptySection, Characters}
+use Rattle.doc_spans.specs.Marks.{shape_of}
 use Rattle.doc_spans.specs.OpenTags.{tag_in, tags_inside, tags_in}
 use Rattle.doc_spans.specs.Standing.{Standing, new_texts, text_after}
 
@@ -83,3 +85,11 @@ section_in (c ∷ cs) in_text e = e
 pub section_new : (cs : List ℕ) (in_text : Bool) → in_text ≡ false → not (is_empty cs) ≡ text_after (cdata cs) in_text
 section_new [] in_text e = sym e
 section_new (c ∷ cs) in_text e = refl
+
+pub shape_of_none : (cs : List ℕ) → is_empty cs ≡ true → EmptySection ≡ shape_of (cdata cs)
+shape_of_none [] e = refl
+shape_of_none (c ∷ cs) e = cc
+
+pub shape_of_some : (cs : List ℕ) → is_empty cs ≡ false → Characters ≡ shape_of (cdata cs)
+shape_of_some [] e = cc
+shape_of_some (c ∷ cs) e = refl

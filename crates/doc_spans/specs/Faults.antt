@@ -1,7 +1,9 @@
 -- The faults of a text in the code, their numbers and places.
-use Rattle.std.specs.Prelude.{ℕ, Option, Some, None}
+use Rattle.std.specs.Prelude.{◌≡◌, ℕ, List, Option, Some, None}
 use Rattle.document_model.specs.Documents as documents
-use Rattle.document_model.specs.Documents.{Fault, BadItem, TooMany}
+use Rattle.document_model.specs.Documents.{Fault, BadItem, TooMany, fault}
+use Rattle.document_model.specs.Plain.{IsPlain, first_not_plain}
+use Rattle.doc_spans.specs.Standing.{Standing, legal_within_here, fault_here}
 use Rattle.doc_spans.specs.declared.faults.DocFault.{DocFault}
 use Rattle.doc_spans.specs.declared.faults.DocFault.TheVariants.{Item, Doctype, Depth, Nodes, End, OutOfMemory, NotBuilt}
 
@@ -34,3 +36,17 @@ fault_in (Nodes at) = Some (TooMany at)
 fault_in End = Some documents.End
 fault_in OutOfMemory = None
 fault_in (NotBuilt at) = None
+
+-- what a fault says of the bytes: where they are plain, it is their fault
+abbrev pub IsFaultOf : DocFault → List ℕ → Type 0
+IsFaultOf (Item at) bytes = IsPlain bytes × (fault bytes ≡ Some (BadItem at))
+IsFaultOf (Doctype at) bytes = IsPlain bytes × (fault bytes ≡ Some (documents.Doctype at))
+IsFaultOf (Depth at) bytes = IsPlain bytes × (fault bytes ≡ Some (documents.Depth at))
+IsFaultOf (Nodes at) bytes = IsPlain bytes × (fault bytes ≡ Some (TooMany at))
+IsFaultOf End bytes = IsPlain bytes × (fault bytes ≡ Some documents.End)
+IsFaultOf OutOfMemory bytes = Unit {0}
+IsFaultOf (NotBuilt at) bytes = first_not_plain bytes ≡ Some at
+
+-- no legal item within the limits stands at a place, and this is the fault
+abbrev pub MissesItem : Standing → ℕ → List ℕ → DocFault → Type 0
+MissesItem s place bytes e = (legal_within_here s bytes ≡ None) × (fault_in e ≡ Some (fault_here s place bytes))

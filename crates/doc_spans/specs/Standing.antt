@@ -88,9 +88,11 @@ abbrev pub limit_fault : Standing → ℕ → Option (Piece × List ℕ) → Fau
 limit_fault s place None = BadItem place
 limit_fault s place (Some found) = if is_deep s found.0.item then Depth place else TooMany place
 
+abbrev pub fault_with : Standing → ℕ → List ℕ → Option (Piece × List ℕ) → Fault
+fault_with s place bytes found = if starts_with nat_eq bytes (codes "<!DOCTYPE") && not s.begun then Doctype place else limit_fault s place found
+
 abbrev pub fault_here : Standing → ℕ → List ℕ → Fault
-fault_here s place bytes =
-    if starts_with nat_eq bytes (codes "<!DOCTYPE") && not s.begun then Doctype place else limit_fault s place (legal_here s bytes)
+fault_here s place bytes = fault_with s place bytes (legal_here s bytes)
 
 -- whether the items are a whole document
 abbrev pub is_complete : Standing → Bool

@@ -1,6 +1,9 @@
 //! Why bytes spell no document.
 
 ghost use Rattle.std.specs.Prelude.{◌≡◌};
+ghost use Rattle.doc_spans.specs.declared.faults.DocFault.TheVariants.{OutOfMemory};
+
+use std::alloc::AllocError;
 
 /// Why a text is no document within the limits: the first fault, with its place, which is the end of the longest run of legal items.
 #[derive(Clone, Copy, PartialEq, Eq, Debug)]
@@ -51,5 +54,13 @@ impl DocFault {
             | DocFault::NotBuilt { at } => Some(*at),
             DocFault::End | DocFault::OutOfMemory => None,
         }
+    }
+}
+
+impl From<AllocError> for DocFault {
+    ghost from_gives = { λ _ e. e ≡ OutOfMemory };
+
+    fn from(_e: AllocError) -> DocFault {
+        DocFault::OutOfMemory
     }
 }

@@ -6,6 +6,8 @@ mod child_nodes;
 mod documents;
 mod faults;
 mod open_tags;
+mod plain;
+mod reading;
 mod rows;
 mod standing;
 mod trees;

@@ -145,7 +145,11 @@ impl<'a> Standing<'a> {
         ensures count { result ≡ (if is_empty (tags_in self.now.open.items) || self.now.in_text then 0 else 1) }
         ensures bound { result ≤ 1 }
     {
-        if self.is_outside() || self.in_text { 0 } else { 1 }
+        if self.is_outside() || self.in_text {
+            0
+        } else {
+            1
+        }
     }
 
     // The same of a CDATA section, which may be empty.
