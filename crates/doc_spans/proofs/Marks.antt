@@ -21,11 +21,11 @@ abbrev pub onto : List Piece → List Piece → List Piece
 onto [] before = before
 onto (piece ∷ pieces) before = onto pieces (piece ∷ before)
 
-abbrev EndsBy : ℕ → Place → Type 0
+abbrev pub EndsBy : ℕ → Place → Type 0
 EndsBy at place = place.end ≤ at
 
 -- no place ends behind the pieces
-ended : (before : List Piece) → Each (EndsBy (size before)) (places_after before)
+pub ended : (before : List Piece) → Each (EndsBy (size before)) (places_after before)
 ended [] = tt
 ended (piece ∷ before) = by_start (begins_node (items_of before) piece.item) _ (each_map (EndsBy (size before)) (EndsBy (size (piece ∷ before))) _ further (places_after before) (ended before))
   where

@@ -7,15 +7,11 @@ use Rattle.document_model.specs.Tree.{Path}
 use Rattle.document_model.specs.Places.{Place}
 use Rattle.doc_spans.specs.declared.rows.Row.{Row}
 use Rattle.doc_spans.specs.View.{siblings, under, paths_of, parents_of, places_of_rows, IsTree}
+use Rattle.doc_spans.specs.Seen.{paths_below}
 use Rattle.doc_spans.specs.Shown.{children_from}
 use Rattle.doc_spans.proofs.Each.{some_is}
 use Rattle.doc_spans.proofs.View.{get_inside, parents_many, has_paths, under_get}
 use Rattle.doc_spans.proofs.Shows.{IsNumber, few_parents, child_of, drop_get, drop_past, get_or_past, path_of_place, shown_many}
-
--- the paths of so many children, from the i-th on
-abbrev pub paths_below : Path → ℕ → ℕ → List Path
-paths_below outer i zero = []
-paths_below outer i (suc n) = (outer ++ i ∷ []) ∷ paths_below outer (suc i) n
 
 siblings_taken : (n : ℕ) (ps : List ℕ) (j p : ℕ) → slice_get ps j ≡ Some p → siblings n (take (suc j) ps) ≡ cond (nat_eq p n) (suc (siblings n (take j ps))) (siblings n (take j ps))
 siblings_taken n [] j p e = absurd (none-some p e)

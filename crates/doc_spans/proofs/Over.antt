@@ -23,7 +23,7 @@ follow_less : (pieces before : List Piece) → Follow (items_of (onto pieces bef
 follow_less [] before h = h
 follow_less (piece ∷ pieces) before h = (follow_less pieces (piece ∷ before) h).1
 
-size_onto : (pieces before : List Piece) → size (onto pieces before) ≡ size before + length (flat_map (λ piece. piece.text) pieces)
+pub size_onto : (pieces before : List Piece) → size (onto pieces before) ≡ size before + length (flat_map (λ piece. piece.text) pieces)
 size_onto [] before = omega arith
 size_onto (piece ∷ pieces) before =
     let n = size_onto pieces (piece ∷ before) in

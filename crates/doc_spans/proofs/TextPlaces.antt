@@ -28,7 +28,7 @@ use Rattle.doc_spans.proofs.TextNodes.{keeps_text, grows_text, last_inside, at_l
 
 -- Paths, the same or not.
 
-same_or_not : (a b : Path) → (a ≡ b) ⊎ (a ≡ b → ⊥)
+pub same_or_not : (a b : Path) → (a ≡ b) ⊎ (a ≡ b → ⊥)
 same_or_not [] [] = inl refl
 same_or_not [] (j ∷ b) = inr (λ e. let n = ap length e in absurd (omega (arith, n)))
 same_or_not (k ∷ a) [] = inr (λ e. let n = ap length e in absurd (omega (arith, n)))

@@ -10,6 +10,7 @@ mod plain;
 mod reading;
 mod rows;
 mod standing;
+mod texts;
 mod trees;
 
 pub use building::Builder;
@@ -17,4 +18,5 @@ pub use child_nodes::Children;
 pub use documents::{Doc, NodeId, Span};
 pub use faults::DocFault;
 pub use rows::{Kind, Row, Shape};
+pub use texts::{Piece, Pieces};
 pub use trees::Tree;

@@ -26,7 +26,7 @@ pub by_test : {A : Type 0} (P : A → Type 0) (b : Bool) (x y : A) → (b ≡ tr
 by_test P true x y h k = h refl
 by_test P false x y h k = k refl
 
-abbrev Joins : List ℕ → List ℕ × List ℕ → Type 0
+abbrev pub Joins : List ℕ → List ℕ × List ℕ → Type 0
 Joins bytes parts = parts.0 ++ parts.1 ≡ bytes
 
 through_joins : (close bytes : List ℕ) → Joins bytes (through close bytes)
@@ -47,7 +47,7 @@ through_tag_joins None (b ∷ bytes) = by_test (Joins (b ∷ bytes)) (nat_eq b 0
     (λ e. ap (λ x. b ∷ x) (through_tag_joins (cond (is_quote b) (Some b) None) bytes))
 through_tag_joins (Some quote) (b ∷ bytes) = ap (λ x. b ∷ x) (through_tag_joins (cond (nat_eq b quote) None (Some quote)) bytes)
 
-cut_joins : (kind : Kind) (bytes : List ℕ) → Joins bytes (cut kind bytes)
+pub cut_joins : (kind : Kind) (bytes : List ℕ) → Joins bytes (cut kind bytes)
 cut_joins CommentKind bytes = through_after_joins 4 (codes "-->") bytes
 cut_joins CdataKind bytes = through_after_joins 9 (codes "]]>") bytes
 cut_joins InstructionKind bytes = through_after_joins 2 (codes "?>") bytes

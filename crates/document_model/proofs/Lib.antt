@@ -12,4 +12,5 @@ mod Inserted
 pub mod Targets
 mod Forms
 pub mod Joins
+pub mod PlainItems
 pub mod Extending

@@ -2,6 +2,8 @@
 -- read apart is this project's own step on the way to all documents.
 use Rattle.std.specs.Prelude.{◌≡◌, ℕ, suc, Bool, true, false, not, ◌&&◌, ◌||◌, ◌==◌, nat_le, if◌then◌else◌, List, [], ◌∷◌, Option, Some, None, option_map}
 use Rattle.document_model.specs.Characters.{begins_with}
+use Rattle.document_model.specs.Tree.{Node, Element, Text, Comment, Instruction}
+use Rattle.document_model.specs.Items.{Item, declaration, start_tag, empty_tag, end_tag, character, reference, cdata, comment, instruction}
 
 -- a byte that a plain document may have: ASCII, but no `&`, `=`, `:` and CR
 abbrev pub is_plain_byte : ℕ → Bool
@@ -22,3 +24,18 @@ first_not_plain (b ∷ behind) = if is_plain_at b behind then option_map suc (fi
 
 abbrev pub IsPlain : List ℕ → Type 0
 IsPlain bytes = first_not_plain bytes ≡ None
+
+-- an item of a plain document with its text: a tag without prefix, attributes and declarations, or one byte
+abbrev pub IsPlainPiece : Item → List ℕ → Type 0
+IsPlainPiece (start_tag name attributes) text = (name.prefix ≡ []) × (attributes ≡ [])
+IsPlainPiece (empty_tag name attributes) text = (name.prefix ≡ []) × (attributes ≡ [])
+IsPlainPiece (end_tag name) text = Unit {0}
+IsPlainPiece (character c) text = text ≡ c ∷ []
+IsPlainPiece item text = ⊥
+
+-- a node of a plain document: an element without prefix, attributes and declarations, or a text
+abbrev pub IsPlainNode : Node → Type 0
+IsPlainNode (Element name attributes nodes) = (name.prefix ≡ []) × (attributes ≡ [])
+IsPlainNode (Text cs) = Unit {0}
+IsPlainNode (Comment cs) = ⊥
+IsPlainNode (Instruction target content) = ⊥
