@@ -18,6 +18,7 @@ use Rattle.doc_spans.proofs.Each.{each_get, some_is}
 use Rattle.doc_spans.proofs.Marks.{onto, eq_self}
 use Rattle.doc_spans.proofs.Named.{IsNode, paths}
 use Rattle.doc_spans.proofs.NodeTexts.{Stands, stands_at, all_of_each, each_of_all}
+use Rattle.doc_spans.proofs.Numbered.{AreNumbered}
 use Rattle.doc_spans.proofs.Run.{run_good, places_of_run}
 use Rattle.doc_spans.proofs.TextPlaces.{same_or_not}
 
@@ -129,9 +130,6 @@ pub path_at_place : (shown : Shown) (q : ℕ) (place : Place) → slice_get show
 path_at_place shown q place e = ap (λ o. option_map_or (λ path. path) o []) (get_map (λ p. p.path) shown.places q ∙ ap (option_map (λ p. p.path)) e)
 
 -- The children are as many as the nodes there.
-
-abbrev pub AreNumbered : Shown → Path → Type 0
-AreNumbered shown path = map (path_at shown) (children_of shown path) ≡ paths_below path 0 (length (children_of shown path))
 
 no_more : (shown : Shown) (bytes : List ℕ) (path : Path) → IsShownOf shown bytes → AreNumbered shown path
     → length (children_of shown path) ≤ count (nodes_at (document_of bytes) path)

@@ -1,22 +1,15 @@
-use Rattle.std.proofs.Common.{rules, ◌≡◌, length, Some, IfSome, IfNone, [], option_map, ℕ, ◌+◌, ◌-◌, ◌*◌, ◌<◌, ◌≤◌, ◌/◌, ◌%◌, Bool, true, false, nat_eq, nat_lt, List, ◌∷◌, ◌++◌, slice_index_or, slice_set, bit_and, bit_or, Fits, w8, w32, w64, Bor, MutBor}
-use Rattle.std.specs.Str.{chars, IsAscii}
-use Rattle.doc_spans.specs.Written.{written_name}
-use Rattle.std.proofs.Props.{props}
-use Rattle.doc_spans.specs.Shown.{IsShownOf, kind_of, outer_path}
-use Rattle.document_model.specs.Plain.{IsPlain}
-use Rattle.doc_spans.specs.Rest.{rest}
-use Rattle.doc_spans.specs.Seen.{Has, NameBelow, bytes_in, shown_in, path_in, place_in, node_in, name_in, text_in}
-use Rattle.doc_spans.specs.Pieces.{characters_left}
+use Rattle.std.proofs.Common.{◌≡◌, ◌∙◌, ap}
+use Rattle.std.specs.Str.{chars}
+use Rattle.doc_spans.proofs.Calls.{start_within, name_value, no_name_value}
 use Rattle.doc_spans.proofs.documents.Doc.name_text.Goals as goal
 
--- src/documents.rt:131:15
 pub next_item-requires : goal.next_item-requires
-next_item-requires c = ?
+next_item-requires c = start_within c.args.self.bytes.now c.args.self.tree.now c.args.node.0 c.row.result.now c.args.self.whole c.row.ensures
 
--- src/documents.rt:126:5
 pub returns-in-Some : goal.returns-in-Some
-returns-in-Some c = ?
+returns-in-Some c =
+    ap chars c.name_found.ensures
+    ∙ name_value c.args.self.bytes.now c.args.self.tree.now c.args.node.0 c.row.result.now c.in-Some.scanned c.args.self.whole c.row.ensures c.in-Some.ensures.read c.in-Some.ensures.item
 
--- src/documents.rt:126:5
 pub returns-in-None : goal.returns-in-None
-returns-in-None c = ?
+returns-in-None c = no_name_value c.args.self.bytes.now c.args.self.tree.now c.args.node.0 c.row.result.now _ c.args.self.whole c.row.ensures c.in-None.ensures.item
