@@ -20,3 +20,6 @@ pub use faults::DocFault;
 pub use rows::{Kind, Row, Shape};
 pub use texts::{Piece, Pieces};
 pub use trees::Tree;
+
+#[cfg(test)]
+mod tests;
