@@ -151,14 +151,14 @@ no_more shown bytes path is numbered = by_length (length (children_of shown path
         omega (arith, h)
 
 -- a place with a path, or none
-find_path : (target : Path) (places : List Place) → ((q : ℕ) × (place : Place) × (slice_get places q ≡ Some place) × (place.path ≡ target)) ⊎ Each (λ place. place.path ≡ target → ⊥) places
+pub find_path : (target : Path) (places : List Place) → ((q : ℕ) × (place : Place) × (slice_get places q ≡ Some place) × (place.path ≡ target)) ⊎ Each (λ place. place.path ≡ target → ⊥) places
 find_path target [] = inr tt
 find_path target (place ∷ places) = elim (same_or_not place.path target) [
   | inl same ↦ inl (0, place, refl, same)
   | inr other ↦ elim (find_path target places) [ inl h ↦ inl (suc h.0, h.1, h.2, h.3) | inr h ↦ inr (other, h) ]
 ]
 
-has_place : (ps : List Place) (path : Path) → Has (paths ps) path → Each (λ place. place.path ≡ path → ⊥) ps → ⊥
+pub has_place : (ps : List Place) (path : Path) → Has (paths ps) path → Each (λ place. place.path ≡ path → ⊥) ps → ⊥
 has_place [] path h none = none-some path h.1
 has_place (place ∷ ps) path h none = by_number (λ k e. has_place ps path (k, e) none.1) h.0 h.1
   where
