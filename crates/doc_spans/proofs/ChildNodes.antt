@@ -29,7 +29,7 @@ nth_within k no_nodes node e = absurd (none-some node e)
 nth_within zero (first ⨾ nodes) node e = omega arith
 nth_within (suc k) (first ⨾ nodes) node e = let h = nth_within k nodes node e in omega (arith, h)
 
-nth_there : (k : ℕ) (nodes : Nodes) → k < count nodes → (node : Node) × (nth k nodes ≡ Some node)
+pub nth_there : (k : ℕ) (nodes : Nodes) → k < count nodes → (node : Node) × (nth k nodes ≡ Some node)
 nth_there k no_nodes h = absurd (omega (arith, h))
 nth_there zero (first ⨾ nodes) h = (first, refl)
 nth_there (suc k) (first ⨾ nodes) h = nth_there k nodes (omega (arith, h))
