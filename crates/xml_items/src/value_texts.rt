@@ -1,7 +1,8 @@
 // Attribute values: their characters, one after another, over the text that stands in quotes.
-ghost use Rattle.std.specs.Prelude.{◌≡◌, ◌∷◌, ◌<◌, ◌≤◌, ◌&&◌, [], length, is_some, if◌then◌else◌, IsTrue, IfSome, IsSome, MatchOption};
+ghost use Rattle.std.specs.Prelude.{◌≡◌, ◌∷◌, ◌<◌, ◌≤◌, ◌&&◌, [], length, is_some, if◌then◌else◌, IsTrue, IfSome, IsSome, MatchOption, nat_le, encode_utf8_all};
+ghost use Rattle.std.specs.Char.{encode_utf8};
 ghost use Rattle.std.specs.Str.{chars, IsUtf8};
-ghost use Rattle.document_model.specs.Characters.{is_white, ◌is◌};
+ghost use Rattle.document_model.specs.Characters.{is_empty, is_white, ◌is◌};
 ghost use Rattle.document_model.specs.Items.{value_of};
 ghost use Rattle.xml_items.specs.Found.{value_in, IsValueText};
 ghost use Rattle.xml_items.specs.Values.{Begins};
@@ -86,4 +87,47 @@ pub fn same_values(a: &str, b: &str) -> bool
             None => return first_of_value(y).is_none(),
         }
     }
+}
+
+// How many bytes a character has in UTF-8.
+fn encoded_len(c: u32) -> usize
+    ensures count { result ≡ length (encode_utf8 c) }
+    ensures bound { result ≤ 4 }
+{
+    match c {
+        0..=0x7F => 1,
+        0x80..=0x7FF => 2,
+        0x800..=0xFFFF => 3,
+        _ => 4,
+    }
+}
+
+// Whether a value has at most so many bytes in UTF-8.
+pub fn value_fits(text: &str, most: usize) -> bool
+    requires { IsValueText text.now }
+    ensures { result ≡ nat_le (length (encode_utf8_all (value_in (chars text.now)))) most }
+{
+    let mut rest = text;
+    let mut left = most;
+    'characters: loop {
+        match first_of_value(rest) {
+            Some((c, behind)) => {
+                let len = encoded_len(c);
+                if left < len {
+                    return false;
+                }
+                left -= len;
+                rest = behind;
+            }
+            None => return true,
+        }
+    }
+}
+
+// Whether a value has no character.
+pub fn is_empty_value(text: &str) -> bool
+    requires { IsValueText text.now }
+    ensures { result ≡ is_empty (value_in (chars text.now)) }
+{
+    first_of_value(text).is_none()
 }
