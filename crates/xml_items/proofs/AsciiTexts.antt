@@ -241,3 +241,9 @@ lowered_same p xs a u = rw lowers_same (same_bool _ _
 
 pub iff_same : (b : Bool) (xs p : List ℕ) → (b ≡ true → xs ≡ p) → (xs ≡ p → b ≡ true) → b ≡ bytes_eq xs p
 iff_same b xs p f g = same_bool b (bytes_eq xs p) (λ h. same_from xs p (f h)) (λ h. g (same_text xs p (sym h)))
+
+-- two texts are the same by their bytes where they are by their characters
+pub texts_same : (a b : List ℕ) → IsUtf8 a → IsUtf8 b → bytes_eq a b ≡ bytes_eq (chars a) (chars b)
+texts_same a b u v = same_bool _ _
+    (λ e. same_from (chars a) (chars b) (ap chars (same_text a b (sym e))))
+    (λ e. same_from a b (sym (encodes-chars a u) ∙ ap encode_utf8_all (same_text (chars a) (chars b) (sym e)) ∙ encodes-chars b v))

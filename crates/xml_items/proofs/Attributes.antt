@@ -4,7 +4,9 @@ use Rattle.std.proofs.lemmas.Bool.{true≢false, false≢true}
 use Rattle.document_model.specs.Characters.{span, is_white, continues_name, is_empty}
 use Rattle.document_model.specs.Names.{Name, name_of}
 use Rattle.document_model.specs.Items.{Item, Attribute, Pair, pair_at, pairs_of, each_of, attribute_of, value_of, behind_one, is_quote, when, tag_of, most_attributes, without_space_behind}
-use Rattle.xml_items.specs.Found.{read_attributes, attributes_in}
+use Rattle.document_model.proofs.Joins.{some_same}
+use Rattle.std.proofs.lemmas.Option.{none-some}
+use Rattle.xml_items.specs.Found.{read_attributes, attributes_in, name_in, no_name, value_in}
 
 pub pair_whole : (t space t1 name t2 w2 t3 t4 w4 t5 t6 inside t7 t8 : List ℕ) (equals quote end : ℕ)
     → span is_white t ≡ (space, t1) → span (λ c. continues_name c || (c == 0x3A)) t1 ≡ (name, t2) → span is_white t2 ≡ (w2, t3) → behind_one (λ c. c == 0x3D) t3 ≡ Some (equals, t4)
@@ -125,3 +127,62 @@ pub counts_full : (text rest : List ℕ) (count : ℕ) → count ≡ most_attrib
 counts_full text rest count h w =
     let z : most_attributes - count ≡ 0 = omega arith in
     omega (arith, w.counted, zero_left rest w.others (rw z at w.next))
+
+-- The first attribute of a row.
+
+-- a pair is an attribute by its two texts
+pub record Read (pair : Pair) (a : Attribute) : Type 0 where
+  pub named : is_some (name_of pair.name) ≡ true
+  pub valued : is_some (value_of pair.text) ≡ true
+  pub is : a ≡ record { name = name_in pair.name; value = value_in pair.text }
+
+read_pair : (pair : Pair) (a : Attribute) → attribute_of pair ≡ Some a → Read pair a
+read_pair pair a e = go (name_of pair.name) (value_of pair.text) refl refl e
+  where
+    go : (n : Option Name) (v : Option (List ℕ)) → name_of pair.name ≡ n → value_of pair.text ≡ v
+        → option_and_then (λ name. option_and_then (λ value. Some (record { name = name; value = value })) v) n ≡ Some a → Read pair a
+    go None v f g e = absurd (none-some a e)
+    go (Some n) None f g e = absurd (none-some a e)
+    go (Some n) (Some v) f g e = record {
+      named = ap is_some f;
+      valued = ap is_some g;
+      is = sym (some_same _ a e) ∙ (λ i. record { name = unwrap_or (sym f i) no_name; value = unwrap_or (sym g i) [] });
+    }
+
+-- the row begins with an attribute, and others stand behind
+pub record Front (n : ℕ) (cs : List ℕ) (pair : Pair) (rest : List ℕ) : Type 0 where
+  pub attribute : Attribute
+  pub read : Read pair attribute
+  pub list : unwrap_or (read_attributes n cs) [] ≡ attribute ∷ unwrap_or (read_attributes (n - 1) rest) []
+  pub next : is_some (read_attributes (n - 1) rest) ≡ true
+  pub some : 0 < n
+
+pub row_front : (n : ℕ) (cs : List ℕ) (pair : Pair) (rest : List ℕ) → is_some (read_attributes n cs) ≡ true → pair_at cs ≡ Some (pair, rest) → Front n cs pair rest
+row_front n cs pair rest h e = go (read_attributes n cs) refl h
+  where
+    some_left : (n : ℕ) (xs : List Attribute) → read_attributes n cs ≡ Some xs → pair_at cs ≡ Some (pair, rest) → 0 < n
+    some_left zero xs f e = absurd (by_text cs f e)
+      where
+        by_text : (cs : List ℕ) → read_attributes zero cs ≡ Some xs → pair_at cs ≡ Some (pair, rest) → ⊥
+        by_text [] f e = cc
+        by_text (c ∷ cs) f e = none-some xs f
+    some_left (suc n) xs f e = omega arith
+
+    go : (o : Option (List Attribute)) → read_attributes n cs ≡ o → is_some o ≡ true → Front n cs pair rest
+    go None f h = absurd (false≢true h)
+    go (Some xs) f h =
+        let r : Follows n xs pair rest = row n cs xs (Some (pair, rest)) e f in
+        record {
+          attribute = r.attribute;
+          read = read_pair pair r.attribute r.is;
+          list = ap (λ o. unwrap_or o []) f ∙ r.first ∙ ap (λ o. r.attribute ∷ unwrap_or o []) (sym r.next);
+          next = ap is_some r.next;
+          some = some_left n xs f e;
+        }
+
+pub row_end : (n : ℕ) (cs : List ℕ) → is_some (read_attributes n cs) ≡ true → pair_at cs ≡ None → unwrap_or (read_attributes n cs) [] ≡ []
+row_end n cs h e = go (read_attributes n cs) refl h
+  where
+    go : (o : Option (List Attribute)) → read_attributes n cs ≡ o → is_some o ≡ true → unwrap_or (read_attributes n cs) [] ≡ []
+    go None f h = absurd (false≢true h)
+    go (Some xs) f h = ap (λ o. unwrap_or o []) f ∙ row n cs xs None e f

@@ -62,3 +62,12 @@ names_same a b u v h k = same_bool _ _
     (λ e. sym (ap (λ x. same_name (name_in (chars a)) (name_in (chars x))) (same_text a b (sym e))) ∙ itself (name_in (chars a)))
     (λ e. let same : chars a ≡ chars b = sym (spells (chars a) h) ∙ ap spelled (both_same (name_in (chars a)) (name_in (chars b)) e) ∙ spells (chars b) k in
     same_from a b (sym (encodes-chars a u) ∙ ap encode_utf8_all same ∙ encodes-chars b v))
+
+-- The parts of a name.
+
+pub name_alone : (text front behind : List ℕ) → span is_not_colon text ≡ (front, behind) → behind ≡ [] → is_some (name_of text) ≡ true → name_in text ≡ record { prefix = []; local = front }
+name_alone text front behind e f h = rw (e, f) (one (is_plain_name front) (rw (e, f) at h))
+  where
+    one : (b : Bool) → is_some {T = Name} (cond b (Some (record { prefix = []; local = front })) None) ≡ true → unwrap_or (cond b (Some (record { prefix = []; local = front })) None) no_name ≡ record { prefix = []; local = front }
+    one true h = refl
+    one false h = absurd (false≢true h)

@@ -31,16 +31,16 @@ not_cr c w = go (c == 0xD) refl
 
 -- the first character of a value as it is read
 
-normal_plain : (c : ℕ) (cs : List ℕ) → is_white c ≡ false → normal (c ∷ cs) ≡ c ∷ normal cs
+pub normal_plain : (c : ℕ) (cs : List ℕ) → is_white c ≡ false → normal (c ∷ cs) ≡ c ∷ normal cs
 normal_plain c cs w = rw (not_cr c w, w) refl
 
-normal_other : (c : ℕ) (cs : List ℕ) → (c == 0xD) ≡ false → normal (c ∷ cs) ≡ cond (is_white c) 0x20 c ∷ normal cs
+pub normal_other : (c : ℕ) (cs : List ℕ) → (c == 0xD) ≡ false → normal (c ∷ cs) ≡ cond (is_white c) 0x20 c ∷ normal cs
 normal_other c cs e = rw e refl
 
-normal_cr_lf : (c : ℕ) (cs : List ℕ) → (c == 0xD) ≡ true → begins_with 0xA cs ≡ true → normal (c ∷ cs) ≡ normal cs
+pub normal_cr_lf : (c : ℕ) (cs : List ℕ) → (c == 0xD) ≡ true → begins_with 0xA cs ≡ true → normal (c ∷ cs) ≡ normal cs
 normal_cr_lf c cs e f = rw (e, f) refl
 
-normal_cr : (c : ℕ) (cs : List ℕ) → (c == 0xD) ≡ true → begins_with 0xA cs ≡ false → normal (c ∷ cs) ≡ 0x20 ∷ normal cs
+pub normal_cr : (c : ℕ) (cs : List ℕ) → (c == 0xD) ≡ true → begins_with 0xA cs ≡ false → normal (c ∷ cs) ≡ 0x20 ∷ normal cs
 normal_cr c cs e f = rw (e, f) refl
 
 -- a run that ends at no white space is the same in a value as it is read
@@ -96,7 +96,7 @@ span_again p (c ∷ cs) = go (p c) refl (span_again p cs)
     go false e behind = rw (e, e) refl
 
 -- the pieces behind the first one, by what stands behind it
-abbrev pieces_behind : ℕ → List ℕ → List (List ℕ)
+abbrev pub pieces_behind : ℕ → List ℕ → List (List ℕ)
 pieces_behind d [] = []
 pieces_behind d (x ∷ cs) = (pieces_at d cs).0 ∷ (pieces_at d cs).1
 
@@ -109,22 +109,22 @@ pieces_by_span d (c ∷ cs) = go (c == d) refl (pieces_by_span d cs)
     go true e behind = rw e refl
     go false e behind = rw e (ap (λ x. (c ∷ x.0, x.1)) behind)
 
-no_white_at : (d : ℕ) → is_white d ≡ false → (c : ℕ) → not (c == d) ≡ false → is_white c ≡ false
+pub no_white_at : (d : ℕ) → is_white d ≡ false → (c : ℕ) → not (c == d) ≡ false → is_white c ≡ false
 no_white_at d w c e = ap is_white (eqb-true c d (not-false (c == d) e)) ∙ w
 
-abbrev at_reference : ℕ → Bool
+abbrev pub at_reference : ℕ → Bool
 at_reference = λ c. not (c == 0x26)
 
-abbrev at_end : ℕ → Bool
+abbrev pub at_end : ℕ → Bool
 at_end = λ c. not (c == 0x3B)
 
 normal_to_reference : (cs : List ℕ) → span at_reference (normal cs) ≡ (normal (span at_reference cs).0, normal (span at_reference cs).1)
 normal_to_reference = span_normal at_reference refl refl (no_white_at 0x26 refl)
 
-normal_to_end : (cs : List ℕ) → span at_end (normal cs) ≡ (normal (span at_end cs).0, normal (span at_end cs).1)
+pub normal_to_end : (cs : List ℕ) → span at_end (normal cs) ≡ (normal (span at_end cs).0, normal (span at_end cs).1)
 normal_to_end = span_normal at_end refl refl (no_white_at 0x3B refl)
 
-pieces_normal : (cs : List ℕ) → pieces_at 0x26 (normal cs) ≡ (normal (span at_reference cs).0, pieces_behind 0x26 (normal (span at_reference cs).1))
+pub pieces_normal : (cs : List ℕ) → pieces_at 0x26 (normal cs) ≡ (normal (span at_reference cs).0, pieces_behind 0x26 (normal (span at_reference cs).1))
 pieces_normal cs = pieces_by_span 0x26 (normal cs) ∙ ap (λ x. (x.0, pieces_behind 0x26 x.1)) (normal_to_reference cs)
 
 -- the first piece has no say
@@ -215,7 +215,7 @@ referred_white text h =
     rw (not_this text (codes "lt") h refl, not_this text (codes "gt") h refl, not_this text (codes "amp") h refl, not_this text (codes "apos") h refl, not_this text (codes "quot") h refl)
     (rw (no_number 16 hexadecimal_digits (codes "#x") text no_white_in refl h, no_number 10 decimal_digits (codes "#") text no_white_in_decimal refl h) refl)
 
-referred_normal : (text : List ℕ) → referred (normal text) ≡ referred text
+pub referred_normal : (text : List ℕ) → referred (normal text) ≡ referred text
 referred_normal text = go (list_all not_white text) refl
   where
     go : (b : Bool) → list_all not_white text ≡ b → referred (normal text) ≡ referred text
@@ -228,7 +228,7 @@ referred_normal text = go (list_all not_white text) refl
 
 -- one reference
 
-first_stops : (p : ℕ → Bool) (x : ℕ) (cs : List ℕ) → span p (x ∷ cs) ≡ ([], x ∷ cs) → p x ≡ false
+pub first_stops : (p : ℕ → Bool) (x : ℕ) (cs : List ℕ) → span p (x ∷ cs) ≡ ([], x ∷ cs) → p x ≡ false
 first_stops p x cs h = go (p x) refl
   where
     go : (b : Bool) → p x ≡ b → p x ≡ false

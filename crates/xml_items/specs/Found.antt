@@ -2,7 +2,7 @@
 use Rattle.std.specs.Prelude.{ℕ, List, [], Option, unwrap_or, option_and_then, is_some, IsTrue}
 use Rattle.std.specs.Str.{chars}
 use Rattle.document_model.specs.Names.{Name, name_of}
-use Rattle.document_model.specs.Items.{Attribute, attribute_of, each_of, pairs_of, most_attributes}
+use Rattle.document_model.specs.Items.{Attribute, attribute_of, each_of, pairs_of, most_attributes, value_of}
 
 abbrev pub no_name : Name
 no_name = record { prefix = []; local = [] }
@@ -25,3 +25,10 @@ IsNameText bytes = IsTrue (is_some (name_of (chars bytes)))
 
 abbrev pub AreAttributesText : List ℕ → Type 0
 AreAttributesText bytes = IsTrue (is_some (read_attributes most_attributes (chars bytes)))
+
+-- the value that a text between quotes spells, where it spells one
+abbrev pub value_in : List ℕ → List ℕ
+value_in text = unwrap_or (value_of text) []
+
+abbrev pub IsValueText : List ℕ → Type 0
+IsValueText bytes = IsTrue (is_some (value_of (chars bytes)))

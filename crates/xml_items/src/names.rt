@@ -4,7 +4,7 @@ ghost use Rattle.std.specs.Str.{chars};
 ghost use Rattle.document_model.specs.Names.{is_plain_name, name_of, same_name};
 ghost use Rattle.xml_items.specs.Found.{name_in, IsNameText};
 
-use crate::classes::{Class, all, front, has};
+use crate::classes::{Class, all, first, front, has};
 
 pub fn is_plain_name(text: &str) -> bool
     ensures { result ≡ is_plain_name (chars text.now) }
@@ -41,4 +41,17 @@ pub fn same_name(a: &str, b: &str) -> bool
     ensures { result ≡ same_name (name_in (chars a.now)) (name_in (chars b.now)) }
 {
     a.as_bytes() == b.as_bytes()
+}
+
+// The prefix of a name, empty where it has none, and its local part.
+pub fn name_parts(name: &str) -> (&str, &str)
+    requires { IsNameText name.now }
+    ensures prefix { (name_in (chars name.now)).prefix ≡ chars result.0.now }
+    ensures local { (name_in (chars name.now)).local ≡ chars result.1.now }
+{
+    let (before, behind) = front(name, Class::Except(':'));
+    match first(behind) {
+        Some((_, local)) => (before, local),
+        None => ("", before),
+    }
 }

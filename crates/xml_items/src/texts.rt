@@ -107,6 +107,13 @@ pub fn is(text: &str, other: &str) -> bool
     text.as_bytes() == other.as_bytes()
 }
 
+// Whether two texts are the same.
+pub fn same(a: &str, b: &str) -> bool
+    ensures { result ≡ (chars a.now is chars b.now) }
+{
+    a.as_bytes() == b.as_bytes()
+}
+
 // Whether a text is this one in any case of letters.
 pub fn is_lowered(text: &str, other: &str) -> bool
     requires ascii { IsTrue (is_ascii other.now) }
