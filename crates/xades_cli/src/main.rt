@@ -9,6 +9,8 @@ mod lines;
 mod plan;
 mod run;
 mod status;
+#[cfg(test)]
+mod tests;
 mod words;
 
 use run::run;
