@@ -9,7 +9,7 @@ use Rattle.doc_spans.specs.Marks.{size, items_of}
 use Rattle.doc_spans.proofs.Marks.{onto}
 use Rattle.doc_spans.proofs.Run.{legal_piece}
 
-no_item : (most : Limits) (before : List Item) → legal_within most before [] ≡ None
+pub no_item : (most : Limits) (before : List Item) → legal_within most before [] ≡ None
 unfolding piece_at is_utf8 chars
 no_item most before = refl
 

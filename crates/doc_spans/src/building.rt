@@ -8,7 +8,7 @@ use std::alloc::{AllocError, Global};
 
 #[derive(Drop)]
 pub struct Builder {
-    rows: Vec<Row>,
+    pub(crate) rows: Vec<Row>,
     current: u32,
     previous: u32,
     in_text: bool,

@@ -1,6 +1,6 @@
 -- What the parts of an item mean that a scanner finds.
 use Rattle.std.specs.Prelude.{ℕ, List, [], Option, unwrap_or, option_and_then, is_some, IsTrue}
-use Rattle.std.specs.Str.{chars, IsUtf8}
+use Rattle.std.specs.Str.{chars}
 use Rattle.document_model.specs.Names.{Name, name_of}
 use Rattle.document_model.specs.Items.{Attribute, attribute_of, each_of, pairs_of, most_attributes}
 
@@ -21,7 +21,7 @@ attributes_in text = unwrap_or (read_attributes most_attributes text) []
 
 -- bytes that spell a name, and bytes that spell the attributes of a tag
 abbrev pub IsNameText : List ℕ → Type 0
-IsNameText bytes = IsUtf8 bytes × IsTrue (is_some (name_of (chars bytes)))
+IsNameText bytes = IsTrue (is_some (name_of (chars bytes)))
 
 abbrev pub AreAttributesText : List ℕ → Type 0
-AreAttributesText bytes = IsUtf8 bytes × IsTrue (is_some (read_attributes most_attributes (chars bytes)))
+AreAttributesText bytes = IsTrue (is_some (read_attributes most_attributes (chars bytes)))

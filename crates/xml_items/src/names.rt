@@ -1,7 +1,8 @@
 // Names of elements and attributes.
 ghost use Rattle.std.specs.Prelude.{◌≡◌, is_some};
 ghost use Rattle.std.specs.Str.{chars};
-ghost use Rattle.document_model.specs.Names.{is_plain_name, name_of};
+ghost use Rattle.document_model.specs.Names.{is_plain_name, name_of, same_name};
+ghost use Rattle.xml_items.specs.Found.{name_in, IsNameText};
 
 use crate::classes::{Class, all, front, has};
 
@@ -31,4 +32,13 @@ pub fn is_name(text: &str) -> bool
         Some(_) => is_plain_name(prefix) && is_plain_name(rest.as_str()),
         None => is_plain_name(prefix),
     }
+}
+
+// Whether two texts of names spell the same name: they do where they are the same, byte by byte.
+pub fn same_name(a: &str, b: &str) -> bool
+    requires first { IsNameText a.now }
+    requires second { IsNameText b.now }
+    ensures { result ≡ same_name (name_in (chars a.now)) (name_in (chars b.now)) }
+{
+    a.as_bytes() == b.as_bytes()
 }

@@ -1,5 +1,5 @@
 // Tags: names with values in quotes.
-ghost use Rattle.std.specs.Prelude.{◌≡◌, ◌<◌, List, [], length, is_some, option_map, option_and_then, IfSome, ℕ, ◌++◌, IsTrue};
+ghost use Rattle.std.specs.Prelude.{◌≡◌, ◌<◌, ◌≤◌, List, [], length, is_some, option_map, option_and_then, IfSome, ℕ, ◌++◌, IsTrue};
 ghost use Rattle.std.specs.Str.{chars, IsUtf8};
 ghost use Rattle.document_model.specs.Names.{Name};
 ghost use Rattle.document_model.specs.Characters.{pieces_at, with_blanks, with_line_ends};
@@ -112,7 +112,8 @@ pub fn tag<'a>(text: &'a str) -> Option<(&'a str, &'a str)>
 // How many attributes a tag has, in a second pass over them.
 pub fn attribute_count(attributes: &str) -> usize
     requires { IsTrue (is_some (read_attributes most_attributes (chars attributes.now))) }
-    ensures { result ≡ length (attributes_in (chars attributes.now)) }
+    ensures count { result ≡ length (attributes_in (chars attributes.now)) }
+    ensures bound { result ≤ 256 }
 {
     let mut rest = attributes;
     for count in 0..MOST_ATTRIBUTES {

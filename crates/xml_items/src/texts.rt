@@ -2,7 +2,7 @@
 ghost use Rattle.std.specs.Prelude.{false, ◌≡◌, ◌++◌, ◌<◌, nat_eq, nat_lt, Some, None, MatchOption, IsTrue, option_map, map, length, IfSome, ℕ, List};
 ghost use Rattle.std.specs.List.{list_all, starts_with, ends_with};
 ghost use Rattle.std.specs.Str.{chars, str_to_ascii_lowercase};
-ghost use Rattle.document_model.specs.Characters.{characters, between, contains, ◌is◌};
+ghost use Rattle.document_model.specs.Characters.{characters, between, contains, is_empty, ◌is◌};
 ghost use Rattle.document_model.specs.Items.{without_space_behind, lower_case};
 ghost use Rattle.xml_items.specs.Texts.{is_ascii, HasEnd};
 
@@ -90,6 +90,13 @@ pub fn contains(text: &str, part: &str) -> bool
         }
     }
     true
+}
+
+// Whether a text has no character.
+pub fn is_empty(text: &str) -> bool
+    ensures { result ≡ is_empty (chars text.now) }
+{
+    text.is_empty()
 }
 
 // Whether a text is this one.

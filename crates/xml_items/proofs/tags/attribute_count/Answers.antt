@@ -12,8 +12,8 @@ loop-count-preserved c = (
   counts_more (chars c.args.attributes.now) (chars c.loop-count.rest.now) (chars c.in-Some.behind.now) _ c.loop-count.count (omega arith) c.loop-count.invariant.1 c.in-Some.ensures.pair,
 )
 
-pub returns-in-None : goal.returns-in-None
-returns-in-None c = counts_all (chars c.args.attributes.now) (chars c.loop-count.rest.now) c.loop-count.count c.loop-count.invariant.1 c.in-None.ensures.pair
+pub returns-in-None-clause-count : goal.returns-in-None-clause-count
+returns-in-None-clause-count c = counts_all (chars c.args.attributes.now) (chars c.loop-count.rest.now) c.loop-count.count c.loop-count.invariant.1 c.in-None.ensures.pair
 
-pub returns : goal.returns
-returns c = counts_full (chars c.args.attributes.now) (chars c.loop-count.rest.now) c.loop-count.count (omega arith) c.loop-count.invariant.1
+pub returns-clause-count : goal.returns-clause-count
+returns-clause-count c = counts_full (chars c.args.attributes.now) (chars c.loop-count.rest.now) c.loop-count.count (omega arith) c.loop-count.invariant.1
