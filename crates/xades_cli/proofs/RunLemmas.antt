@@ -10,7 +10,7 @@ use Rattle.xades_cli.specs.Wanted.{Want, Fetched, Lacks, IsLong, Found, fetch}
 use Rattle.xades_cli.specs.Causes.{HasCause, HasReadCause}
 use Rattle.xades_cli.specs.Outcomes.{Outcome, Writes, RefusesDocument, wants_of, outcome_of}
 use Rattle.xades_cli.specs.Answers.{IsByWords, Follows, IsRight, IsSettled, Completes, IsSized}
-use Rattle.xades_cli.specs.declared.faults.DocFault.{DocFault}
+use Rattle.doc_spans.specs.declared.faults.DocFault.{DocFault}
 use Rattle.xades_cli.specs.declared.status.Status.{Status}
 use Rattle.xades_cli.specs.declared.status.Status.TheVariants.{Done, BadWords, NoSuchFile, ReadFault, WriteFault, TooLong, BadDocument, OutOfMemory}
 use Rattle.xades_cli.proofs.GrammarLemmas.{faulty_don't_fit}

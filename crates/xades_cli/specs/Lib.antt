@@ -1,6 +1,5 @@
 pub mod Grammar
 pub mod Words
-pub mod Faults
 pub mod Reading
 pub mod Wanted
 pub mod Causes

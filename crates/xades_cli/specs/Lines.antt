@@ -7,7 +7,7 @@ use Rattle.xades_cli.specs.Words.{Asked}
 use Rattle.xades_cli.specs.Wanted.{fetch}
 use Rattle.xades_cli.specs.Outcomes.{wants_of}
 use Rattle.xades_cli.specs.Answers.{IsSized}
-use Rattle.xades_cli.specs.Faults.{fault_number, fault_place}
+use Rattle.doc_spans.specs.Faults.{fault_number, fault_place}
 use Rattle.xades_cli.specs.declared.status.Status.{Status}
 use Rattle.xades_cli.specs.declared.status.Status.TheVariants.{Done, BadWords, NoSuchFile, ReadFault, WriteFault, TooLong, BadDocument, OutOfMemory}
 

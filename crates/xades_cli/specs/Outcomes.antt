@@ -7,9 +7,9 @@ use Rattle.document_model.specs.NodeSets.{whole}
 use Rattle.document_model.specs.Canonical.{Form, Exclusive, octets_of}
 use Rattle.xades_cli.specs.Words.{Asked, AskedCanon}
 use Rattle.xades_cli.specs.Wanted.{Want}
-use Rattle.xades_cli.specs.Faults.{IsFaultOf}
-use Rattle.xades_cli.specs.declared.faults.DocFault.{DocFault}
-use Rattle.xades_cli.specs.declared.faults.DocFault.TheVariants.{OutOfMemory}
+use Rattle.doc_spans.specs.Faults.{IsFaultOf}
+use Rattle.doc_spans.specs.declared.faults.DocFault.{DocFault}
+use Rattle.doc_spans.specs.declared.faults.DocFault.TheVariants.{OutOfMemory}
 
 -- what a command comes to once its files are read: it writes bytes, or refuses a document that spells no tree within the limits
 pub data Outcome : Type 0 where

@@ -3,11 +3,11 @@ ghost use Rattle.std.specs.Prelude.{◌≡◌, ◌≤◌, ◌++◌, OnOk, OnErr,
 ghost use Rattle.xa_io.specs.Sink.{appended};
 ghost use Rattle.xa_io.specs.Causes.{Rose};
 ghost use Rattle.xa_io.specs.Sink.{GaveFirst};
-ghost use Rattle.xades_cli.specs.Faults.{fault_place};
+ghost use Rattle.doc_spans.specs.Faults.{fault_place};
 ghost use Rattle.xades_cli.specs.Lines.{fault_line, line_of, Gives};
 
-use crate::faults::DocFault;
 use crate::status::Status;
+use doc_spans::DocFault;
 use itoa::Buffer;
 use xa_io::{Sink, SinkFailed};
 

@@ -3,7 +3,6 @@
 
 mod canon;
 mod compute;
-mod faults;
 mod files;
 mod lines;
 mod plan;

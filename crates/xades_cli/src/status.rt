@@ -1,7 +1,7 @@
 // What a run answers.
 ghost use Rattle.std.specs.Prelude.{◌≡◌};
 
-use crate::faults::DocFault;
+use doc_spans::DocFault;
 use xa_io::Name;
 
 /// What a run answers. The process ends with its number.
