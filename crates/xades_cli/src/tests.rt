@@ -3,6 +3,7 @@
 ghost use Rattle.std.specs.Prelude.{◌<◌};
 
 use crate::run::run;
+use std::process::Abort;
 use std::test::Fail;
 use std::{env, fs};
 use xa_io::{FileShelf, Got, MemShelf, MemSink, Name, Octs, Shelf, ShelfFailed, Sink, StdSink};
@@ -71,6 +72,13 @@ fn answer_of(
         out,
         err,
     })
+}
+
+// The answer is this one; `row` is its number in a table.
+fn compare(rt: &impl Abort, row: usize, answer: &Answer, number: u8, out: &[u8], err: &[u8]) {
+    assert_eq!(rt; answer.number, number, "row {row}");
+    assert_eq!(rt; answer.out.as_slice(), out, "row {row}");
+    assert_eq!(rt; answer.err.as_slice(), err, "row {row}");
 }
 
 const CANON: &[&str] = &["canon", "doc=a"];
@@ -163,12 +171,10 @@ fn rows(rt: HostRuntime) -> Result<(), Fail> {
             err: b"xades: word 3 is not understood\n",
         },
     ];
-    'rows: for row in &rows {
+    'rows: for (number, row) in rows.iter().enumerate() {
         'parts: for most in [1, 3, 100] {
             let answer = answer_of(&rt, row.words, row.document, most, &NONE)?;
-            assert_eq!(rt; answer.number, row.number, "{:?}", row.words);
-            assert_eq!(rt; answer.out.as_slice(), row.out);
-            assert_eq!(rt; answer.err.as_slice(), row.err);
+            compare(&rt, number, &answer, row.number, row.out, row.err);
         }
     }
     Ok(())
@@ -177,48 +183,40 @@ fn rows(rt: HostRuntime) -> Result<(), Fail> {
 #[test]
 fn shelf_fails(rt: HostRuntime) -> Result<(), Fail> {
     // four bytes, one a call, and the end
-    'calls: for shelf in 1..7 {
+    'calls: for shelf in 1..6 {
         let failing = Failing { shelf, ..NONE };
         let answer = answer_of(&rt, CANON, b"<a/>", 1, &failing)?;
-        assert_eq!(rt;
-            answer.number,
-            if shelf < 6 { 4 } else { 0 },
-            "call {shelf}"
+        compare(
+            &rt,
+            shelf as usize,
+            &answer,
+            4,
+            b"",
+            b"xades: read fault: a\n",
         );
-        let err: &[u8] = if shelf < 6 {
-            b"xades: read fault: a\n"
-        } else {
-            b""
-        };
-        assert_eq!(rt; answer.err.as_slice(), err);
-        let out: &[u8] = if shelf < 6 { b"" } else { b"<a></a>" };
-        assert_eq!(rt; answer.out.as_slice(), out);
     }
+    let failing = Failing { shelf: 6, ..NONE };
+    let answer = answer_of(&rt, CANON, b"<a/>", 1, &failing)?;
+    compare(&rt, 6, &answer, 0, b"<a></a>", b"");
     Ok(())
 }
 
 #[test]
 fn out_fails(rt: HostRuntime) -> Result<(), Fail> {
-    'calls: for (call, keep, number, out) in [
-        (1, 0, 5, b"" as &[u8]),
-        (1, 3, 5, b"<a>"),
-        (1, 9, 5, b"<a></a>"),
-        (2, 3, 0, b"<a></a>"),
-    ] {
+    'kept: for (keep, out) in [(0, b"" as &[u8]), (3, b"<a>"), (9, b"<a></a>")] {
         let failing = Failing {
-            out: (call, keep),
+            out: (1, keep),
             ..NONE
         };
         let answer = answer_of(&rt, CANON, b"<a/>", 100, &failing)?;
-        assert_eq!(rt; answer.number, number, "call {call}, {keep} bytes");
-        assert_eq!(rt; answer.out.as_slice(), out);
-        let err: &[u8] = if number == 0 {
-            b""
-        } else {
-            b"xades: write fault\n"
-        };
-        assert_eq!(rt; answer.err.as_slice(), err);
+        compare(&rt, keep, &answer, 5, out, b"xades: write fault\n");
     }
+    let failing = Failing {
+        out: (2, 3),
+        ..NONE
+    };
+    let answer = answer_of(&rt, CANON, b"<a/>", 100, &failing)?;
+    compare(&rt, 2, &answer, 0, b"<a></a>", b"");
     Ok(())
 }
 
@@ -237,9 +235,7 @@ fn err_fails(rt: HostRuntime) -> Result<(), Fail> {
             ..NONE
         };
         let answer = answer_of(&rt, CANON, b"<a>", 100, &failing)?;
-        assert_eq!(rt; answer.number, 7, "call {call}");
-        assert_eq!(rt; answer.err.as_slice(), err);
-        assert_eq!(rt; answer.out.as_slice(), b"".as_slice());
+        compare(&rt, call as usize, &answer, 7, b"", err);
     }
     Ok(())
 }
@@ -248,9 +244,7 @@ fn err_fails(rt: HostRuntime) -> Result<(), Fail> {
 fn long_document(rt: HostRuntime) -> Result<(), Fail> {
     let document = vec![in rt.alloc(); b' '; 16777217]?;
     let answer = answer_of(&rt, CANON, document.as_slice(), 1048576, &NONE)?;
-    assert_eq!(rt; answer.number, 6);
-    assert_eq!(rt; answer.out.as_slice(), b"".as_slice());
-    assert_eq!(rt; answer.err.as_slice(), b"xades: too long: a\n".as_slice());
+    compare(&rt, 0, &answer, 6, b"", b"xades: too long: a\n");
     Ok(())
 }
 
