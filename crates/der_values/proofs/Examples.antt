@@ -1,8 +1,8 @@
 -- The definitions on examples.
-use Rattle.std.proofs.Common.{◌≡◌, ℕ, List, [], ◌∷◌, Option, Some, None, refl}
-use Rattle.std.specs.Prelude.{ℤ, pos, ◌-ℤ◌}
-use Rattle.der_values.specs.Element.{Element, element_at, size_at, long_size}
-use Rattle.der_values.specs.Kinds.{integer_of, oid_of, bit_string_of}
+use Rattle.std.proofs.Common.{◌≡◌, [], ◌∷◌, Some, None, refl}
+use Rattle.std.specs.Prelude.{pos, ◌-ℤ◌}
+use Rattle.der_values.specs.Element.{element_at, size_at, long_size}
+use Rattle.der_values.specs.Kinds.{integer_of}
 use Rattle.der_values.specs.Times.{seconds_of, utc_time, utc_parts, generalized_time, generalized_parts, moment_at, real_seconds, rounding, fraction}
 use Rattle.jiff_core.specs.Calendar.{days_from_civil, day_count, days_of_years, days_of_months}
 

@@ -1,11 +1,11 @@
 -- A layout reads bytes exactly where it fits them.
-use Rattle.std.proofs.Common.{◌≡◌, ◌≢◌, ◌↔◌, ℕ, zero, suc, ◌+◌, ◌-◌, ◌<◌, ◌≤◌, Bool, true, false, cond, List, [], ◌∷◌, ◌++◌, length, take, drop, Option, Some, None, Result, Ok, Err, refl, sym, ap, subst, ◌∙◌, arith, append_assoc, IsTrue, IsOk}
+use Rattle.std.proofs.Common.{◌≡◌, ◌↔◌, ℕ, zero, suc, ◌+◌, ◌≤◌, Bool, true, false, cond, List, [], ◌∷◌, ◌++◌, length, take, drop, Option, Some, None, Result, Ok, Err, refl, sym, ap, subst, ◌∙◌, arith, append_assoc, IsTrue, IsOk}
 use Rattle.std.specs.Prelude.{nat_lt, ◌==◌, MatchResult}
 use Rattle.std.specs.Bool.{MatchBool}
 use Rattle.std.specs.List.{concat}
 use Rattle.std.proofs.lemmas.List.{length-append, append-nil}
 use Rattle.std.proofs.Math.Seq.{take-append_seam, drop-append_seam}
-use Rattle.std.proofs.lemmas.Bool.{ltb-false, ltb-true, lt-ltb, le-ltb, eqb-false, eqb-true, eq-eqb, ne_eqb}
+use Rattle.std.proofs.lemmas.Bool.{ltb-false, lt-ltb, le-ltb, eqb-false, eqb-true, eq-eqb, ne_eqb}
 use Rattle.der_values.specs.Element.{Element, element_at}
 use Rattle.der_values.specs.Rules.{allows, decides, tag_of}
 use Rattle.der_values.specs.declared.rules.Rule.{Rule}
@@ -14,7 +14,7 @@ use Rattle.der_values.specs.Layout.{Layout, nothing, both, element, unread, whol
 use Rattle.der_values.specs.declared.tlv.DerFault.{DerFault}
 use Rattle.der_values.specs.Fits.{IsElement, Each, Fits, IsObject}
 use Rattle.der_values.proofs.Steps.{not_empty}
-use Rattle.der_values.proofs.ElementLaws.{IsFront, element_front, element_again}
+use Rattle.der_values.proofs.ElementLaws.{element_front, element_again}
 
 -- ---- what a chain of readings gave
 

@@ -1,10 +1,10 @@
 -- What a layout reads doesn't depend on where the content begins.
-use Rattle.std.proofs.Common.{◌≡◌, ℕ, zero, suc, ◌+◌, Bool, true, false, cond, List, length, take, drop, Option, Some, None, Result, Ok, Err, refl, sym, subst}
-use Rattle.std.specs.Prelude.{nat_lt, ◌==◌, ⊤}
-use Rattle.der_values.specs.Element.{Element, element_at}
+use Rattle.std.proofs.Common.{◌≡◌, ℕ, zero, suc, ◌+◌, Bool, true, false, cond, List, length, take, drop, Option, Some, None, Result, Ok, Err, refl, subst}
+use Rattle.std.specs.Prelude.{nat_lt, ◌==◌}
+use Rattle.der_values.specs.Element.{element_at}
 use Rattle.der_values.specs.Rules.{allows, decides, tag_of}
 use Rattle.der_values.specs.declared.rules.Rule.{Rule}
-use Rattle.der_values.specs.Layout.{Layout, nothing, both, element, unread, whole_element, many, told, Content, ◌>>=◌, ok_or, next, take_one, held, all_of, repeated, read, read_object}
+use Rattle.der_values.specs.Layout.{Layout, nothing, both, element, unread, whole_element, many, told, Content, ◌>>=◌, ok_or, next, take_one, held, all_of, repeated, read}
 
 -- Both are the same value, or both are faults.
 abbrev pub Agree : {A : Type 0} → Result A ℕ → Result A ℕ → Type 0

@@ -1,6 +1,6 @@
 -- When bytes are as a layout has them: a relation by cases. It knows no place and no order of judging,
 -- and takes elements as X.690 puts them together, where `read` takes them apart.
-use Rattle.std.specs.Prelude.{◌≡◌, ◌≢◌, ℕ, ◌+◌, ◌<◌, ◌≤◌, Bool, true, false, List, [], ◌∷◌, ◌++◌, length, bit_and, IsTrue, ⊤, ◌⊎◌}
+use Rattle.std.specs.Prelude.{◌≡◌, ◌≢◌, ℕ, ◌+◌, ◌<◌, ◌≤◌, false, List, [], ◌∷◌, ◌++◌, length, bit_and, IsTrue, ⊤, ◌⊎◌}
 use Rattle.std.specs.List.{concat}
 use Rattle.std.specs.Bool.{MatchBool}
 use Rattle.der_values.specs.Element.{Element, number_of, first_is_zero}

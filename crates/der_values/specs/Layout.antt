@@ -1,7 +1,6 @@
 -- Layouts of DER objects. `read` gives how far a layout reads a content, or the place of the first bad element.
 -- Elements are judged from the front: one before what it holds, and all that it holds before the next one.
-use Rattle.std.specs.Prelude.{ℕ, zero, suc, ◌+◌, ◌-◌, Bool, true, false, ◌&&◌, not, List, [], ◌∷◌, length, take, drop, Option, Some, None, option_map, Result, Ok, Err, nat_lt, ◌==◌, if◌then◌else◌}
-use Rattle.std.specs.List.{starts_with}
+use Rattle.std.specs.Prelude.{ℕ, zero, suc, ◌+◌, ◌-◌, List, length, take, drop, Option, Some, None, Result, Ok, Err, nat_lt, ◌==◌, if◌then◌else◌}
 use Rattle.der_values.specs.Element.{Element, element_at}
 use Rattle.der_values.specs.Rules.{allows, decides, tag_of}
 use Rattle.der_values.specs.declared.rules.Rule.{Rule}

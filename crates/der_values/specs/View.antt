@@ -1,5 +1,5 @@
 -- What the code's values show.
-use Rattle.std.specs.Prelude.{◌≡◌, ℕ, List, Option, Some, None, map}
+use Rattle.std.specs.Prelude.{List}
 use Rattle.der_values.specs.Element.{Element}
 use Rattle.der_values.specs.Times as times
 use Rattle.der_values.specs.Layout as layouts

@@ -1,9 +1,8 @@
 -- Extensions: RFC 5280, 4.2.
 use Rattle.std.specs.Prelude.{ℕ, ◌&&◌, ◌||◌, not, Bool, List, ◌∷◌, []}
-use Rattle.std.specs.List.{list_any}
 use Rattle.std.specs.Str.{bytes_eq}
 use Rattle.der_values.specs.Element.{Element}
-use Rattle.der_values.specs.Elements.{elements, tagged, first_named}
+use Rattle.der_values.specs.Elements.{tagged, first_named}
 use Rattle.der_values.specs.Rules.{content_of, name_in, bytes_of}
 use Rattle.der_values.specs.declared.oids.KnownOid.{KnownOid}
 use Rattle.der_values.specs.declared.oids.KnownOid.TheVariants as oids

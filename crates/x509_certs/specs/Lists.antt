@@ -1,6 +1,6 @@
 -- What a CRL says, by the places of its parts: RFC 5280, 5.1 to 5.3.
 -- tbsCertList has at 0 the version, 1 the algorithm, 2 the issuer, 3 thisUpdate, then an optional nextUpdate, optional entries, optional [0].
-use Rattle.std.specs.Prelude.{ℕ, ℤ, ◌&&◌, not, Bool, true, false, List, [], ◌∷◌, Option, Some, None, ◌==◌, int_lt, flat_map, if◌then◌else◌}
+use Rattle.std.specs.Prelude.{ℕ, ℤ, ◌&&◌, not, Bool, false, List, [], ◌∷◌, Option, Some, None, ◌==◌, int_lt, flat_map, if◌then◌else◌}
 use Rattle.std.specs.List.{list_any}
 use Rattle.std.specs.Str.{bytes_eq}
 use Rattle.der_values.specs.Element.{Element}

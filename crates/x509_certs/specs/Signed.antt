@@ -1,6 +1,6 @@
 -- What certificates and CRLs have alike: RFC 5280, 4.1.1 and 5.1.1. A path says where a part stands.
 -- Each function takes all the bytes of an object. Of bytes that are none it says what stands there, or nothing.
-use Rattle.std.specs.Prelude.{ℕ, ℤ, pos, Bool, List, [], Option, Some, None, drop, is_none, if◌then◌else◌}
+use Rattle.std.specs.Prelude.{ℕ, ℤ, pos, List, [], Option, Some, None, drop, is_none, if◌then◌else◌}
 use Rattle.der_values.specs.Element.{Element}
 use Rattle.der_values.specs.Rules.{nth, content_of, whole_of}
 use Rattle.der_values.specs.Times.{seconds_of}

@@ -133,10 +133,8 @@ impl<'a> Certificate<'a> {
     pub fn path_len(&self) -> Option<u32>
         ensures { result ≡ says.path_len (certificate_bytes self.now) }
     {
-        match with_tag(
-            0x02,
-            value_of(KnownOid::BasicConstraints, self.extensions()),
-        ) {
+        let constraints = value_of(KnownOid::BasicConstraints, self.extensions());
+        match with_tag(0x02, constraints) {
             None => None,
             Some(tlv) => count(tlv.content),
         }

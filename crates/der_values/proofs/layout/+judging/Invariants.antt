@@ -1,5 +1,5 @@
 use Rattle.std.proofs.Common.{◌≡◌, ◌≤◌, ◌-◌, length}
-use Rattle.der_values.specs.Layout.{read, repeated, many}
+use Rattle.der_values.specs.Layout.{read, repeated}
 use Rattle.der_values.specs.Meaning.{meaning}
 use Rattle.der_values.specs.View.{content_view}
 use Rattle.der_values.proofs.layout.«+judging».Given as goal

@@ -1,7 +1,6 @@
 use Rattle.std.proofs.Common.{◌≡◌, ap, refl, Bool, true, false, Option, Some, None, ℤ, IsSome, IsTrue, ◌↔◌, IfSome}
 use Rattle.std.specs.Prelude.{if◌then◌else◌}
 use Rattle.der_values.specs.Times.{Moment, is_real, seconds_to, real_seconds, moment_at}
-use Rattle.der_values.specs.View.{seen}
 use Rattle.der_values.proofs.times.seconds_at.Goals as goal
 
 by_found : (r : Option ℤ) (b : Bool) (v : ℤ) → IsSome r ↔ IsTrue b → IfSome r (λ s. s ≡ v) → r ≡ (if b then Some v else None)
