@@ -1,6 +1,6 @@
 //! Simple kinds: X.690, 8.2, 8.3, 8.6 and 8.19.
 
-ghost use Rattle.std.specs.Prelude.{◌≡◌, IsTrue, true, false, is_some};
+ghost use Rattle.std.specs.Prelude.{◌≡◌, ◌<◌, ◌^◌, IfSome, IsTrue, true, false, is_some};
 ghost use Rattle.std.specs.Option.{option_copied};
 ghost use Rattle.der_values.specs.Kinds.{integer_of, oid_of, bit_string_of, is_integer, is_oid, are_parts, bits, is_boolean, has_unused_bits, is_count, is_thousandth, count_of};
 ghost use Rattle.der_values.specs.View.{view};
@@ -112,7 +112,8 @@ pub(crate) fn is_part_of_thousand(content: &[u8]) -> bool
 /// The value of an INTEGER's content that is from 0 to 2^31 - 1; else `None`.
 #[tactic(auto, using(crate::proofs::Numbers::below_2_32))]
 pub fn count(content: &[u8]) -> Option<u32>
-    ensures { result ≡ count_of content.now }
+    ensures value { result ≡ count_of content.now }
+    ensures small { IfSome result (λ n. n < 2 ^ 31) }
 {
     if is_small(content) {
         Some(number(content) as u32)

@@ -8,7 +8,8 @@ ghost use Rattle.x509_certs.specs.Signed as signed;
 
 use der_values::{element, part, seconds, with_tag};
 
-pub(crate) fn time(number: usize, content: &[u8]) -> Option<i64>
+/// The seconds since 1970 of the element of a number, if it is a time.
+pub fn time(number: usize, content: &[u8]) -> Option<i64>
     ensures { result ≡ signed.time_of (nth number content.now) }
 {
     match element(number, content) {
@@ -17,8 +18,8 @@ pub(crate) fn time(number: usize, content: &[u8]) -> Option<i64>
     }
 }
 
-// The time of an element that has to stand.
-pub(crate) fn time_at(number: usize, content: &[u8]) -> i64
+/// The same of a time that has to stand; 0 where none does.
+pub fn time_at(number: usize, content: &[u8]) -> i64
     ensures { result ≡ signed.time_or_0 (nth number content.now) }
 {
     match time(number, content) {
@@ -27,7 +28,8 @@ pub(crate) fn time_at(number: usize, content: &[u8]) -> i64
     }
 }
 
-pub(crate) fn has_tag(tag: u8, number: usize, content: &[u8]) -> bool
+/// Whether the element of a number has this tag.
+pub fn has_tag(tag: u8, number: usize, content: &[u8]) -> bool
     ensures { result ≡ is_tag tag (nth number content.now) }
 {
     match element(number, content) {
@@ -36,7 +38,8 @@ pub(crate) fn has_tag(tag: u8, number: usize, content: &[u8]) -> bool
     }
 }
 
-pub(crate) fn algorithm_name<'a>(content: &'a [u8]) -> &'a [u8]
+/// The OID of an AlgorithmIdentifier's content, or nothing where parameters stand.
+pub fn algorithm_name<'a>(content: &'a [u8]) -> &'a [u8]
     ensures { result.now ≡ signed.algorithm_name content.now }
 {
     match element(1, content) {
@@ -45,7 +48,8 @@ pub(crate) fn algorithm_name<'a>(content: &'a [u8]) -> &'a [u8]
     }
 }
 
-pub(crate) fn bit_bytes<'a>(content: &'a [u8]) -> &'a [u8]
+/// The bytes of a BIT STRING's content.
+pub fn bit_bytes<'a>(content: &'a [u8]) -> &'a [u8]
     ensures { result.now ≡ signed.bit_bytes content.now }
 {
     match content {
@@ -54,7 +58,8 @@ pub(crate) fn bit_bytes<'a>(content: &'a [u8]) -> &'a [u8]
     }
 }
 
-pub(crate) fn tagged<'a>(tag: u8, content: &'a [u8]) -> &'a [u8]
+/// What the first element of a tag holds, or nothing.
+pub fn tagged<'a>(tag: u8, content: &'a [u8]) -> &'a [u8]
     ensures { result.now ≡ content_of (said.tagged tag content.now) }
 {
     match with_tag(tag, content) {
@@ -63,7 +68,8 @@ pub(crate) fn tagged<'a>(tag: u8, content: &'a [u8]) -> &'a [u8]
     }
 }
 
-pub(crate) fn fields<'a>(whole: &'a [u8]) -> &'a [u8]
+/// What the signed part of a certificate or CRL holds.
+pub fn fields<'a>(whole: &'a [u8]) -> &'a [u8]
     ensures { result.now ≡ signed.fields whole.now }
 {
     part(0, part(0, whole))

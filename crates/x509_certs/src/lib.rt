@@ -12,6 +12,7 @@ mod part;
 pub use certificate::{Certificate, read_certificate};
 pub use crl::{Crl, read_crl};
 pub use fault::CertFault;
+pub use fields::{algorithm_name, has_tag, tagged, time_at};
 pub use layouts::{ALGORITHM, CERTIFICATE};
 pub use part::{Part, split_data};
 
