@@ -5,15 +5,15 @@ use Rattle.std.proofs.lemmas.Bool.{eq-eqb, ne_eqb}
 use Rattle.std.proofs.lemmas.Bool.Decides.{eqb_tells, leb_tells}
 use Rattle.std.proofs.lemmas.List.{reverse-append}
 use Rattle.std.proofs.lemmas.Str.{chars-IsAscii}
-use Rattle.std.specs.Prelude.{option_and_then, option_map, slice_index}
+use Rattle.std.specs.Prelude.{option_and_then, option_map}
 use Rattle.std.specs.Str.{continuation_len}
 use Rattle.std.specs.Str.{IsAscii, chars, is_utf8}
-use Rattle.std.specs.List.{starts_with, ends_with, list_all}
-use Rattle.document_model.specs.Characters.{characters, is_char, span, between, begins_with, is_empty}
+use Rattle.std.specs.List.{starts_with}
+use Rattle.document_model.specs.Characters.{characters, span, between, begins_with}
 use Rattle.document_model.specs.Names.{Name, is_not_colon, name_of, joined_name, is_plain_name}
-use Rattle.document_model.specs.Items.{Attribute, Item, Piece, Pair, declaration, start_tag, empty_tag, end_tag, character, reference, cdata, comment, instruction, Kind, CommentKind, CdataKind, InstructionKind, EndTagKind, TagKind, ReferenceKind, CharacterKind, kind_at, cut, item_of, piece_at, when, or_else, tag_of, end_tag_of, pair_at, pairs_of, each_of, attribute_of, most_attributes, behind_one, is_quote, without_space_behind, character_len, character_of}
+use Rattle.document_model.specs.Items.{Attribute, Item, Piece, Pair, start_tag, empty_tag, end_tag, character, Kind, CommentKind, CdataKind, InstructionKind, EndTagKind, TagKind, ReferenceKind, CharacterKind, kind_at, cut, item_of, piece_at, when, or_else, tag_of, end_tag_of, pair_at, pairs_of, each_of, attribute_of, most_attributes, behind_one, without_space_behind, character_of}
 use Rattle.document_model.specs.Plain.{is_plain_byte, begins_markup, is_plain_at, first_not_plain, IsPlain, IsPlainPiece}
-use Rattle.document_model.proofs.Joins.{cut_joins, some_same, bind_some, when_some, by_test, piece_joins}
+use Rattle.document_model.proofs.Joins.{cut_joins, some_same, bind_some, when_some, by_test}
 
 -- Texts without a character.
 

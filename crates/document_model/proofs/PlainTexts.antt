@@ -1,19 +1,17 @@
 -- The canonical text of a plain document is that of its plain nodes, by each exclusive form.
-use Rattle.std.proofs.Common.{◌≡◌, ℕ, zero, suc, Bool, true, false, not, cond, ◌&&◌, ◌||◌, List, [], ◌∷◌, ◌++◌, Option, Some, None, refl, sym, ◌∙◌, ap, subst, codes, nat_eq, append_assoc}
+use Rattle.std.proofs.Common.{◌≡◌, ℕ, suc, Bool, true, false, not, cond, ◌&&◌, ◌||◌, List, [], ◌∷◌, ◌++◌, Some, refl, ◌∙◌, ap, codes}
 use Rattle.std.proofs.lemmas.List.{append-nil}
 use Rattle.std.proofs.lemmas.Option.{none-some}
-use Rattle.std.specs.Prelude.{map, filter, flat_map, option_and_then}
-use Rattle.std.specs.Option.{option_map_or}
-use Rattle.std.specs.List.{list_any}
-use Rattle.document_model.specs.Characters.{◌is◌, is_empty}
-use Rattle.document_model.specs.Names.{Name, spelled}
+use Rattle.std.specs.Prelude.{map, filter, flat_map}
+use Rattle.document_model.specs.Characters.{◌is◌}
+use Rattle.document_model.specs.Names.{spelled}
 use Rattle.document_model.specs.Items.{Attribute}
-use Rattle.document_model.specs.Tree.{Node, Nodes, Path, Element, Text, Comment, Instruction, no_nodes, ◌⨾◌, nth, below, descend, node_at, count}
-use Rattle.document_model.specs.Scopes.{Tag, value_or, declared_value, space_of, attribute_name, declared_space, declared_prefix, elements_around}
-use Rattle.document_model.specs.NodeSets.{NodeSet, whole, has_in, reaches_in, is_comment, kept, kept_node, part, part_from}
-use Rattle.document_model.specs.Canonical.{Rule, rendered_value, with_declared, declared_as, sorted, is_name_before, attribute_text, is_declaration, Inclusive, Exclusive, Form, Around, at_apex, inside, declared_prefixes, is_written, is_unrendered, changes, is_among, uses, declarations, declaration_text, attributes_of, attributes_text, start_text, end_text, node_text, nodes_text, before_element, outside_text, in_form, text_of, text_character}
+use Rattle.document_model.specs.Tree.{Node, Nodes, Path, Element, Text, Comment, Instruction, no_nodes, ◌⨾◌, descend, node_at, count}
+use Rattle.document_model.specs.Scopes.{Tag, value_or, declared_value, space_of, attribute_name, declared_space}
+use Rattle.document_model.specs.NodeSets.{whole, has_in, kept, kept_node}
+use Rattle.document_model.specs.Canonical.{rendered_value, with_declared, declared_as, sorted, is_name_before, attribute_text, is_declaration, Inclusive, Exclusive, Around, at_apex, inside, declared_prefixes, is_written, is_among, uses, declarations, declaration_text, attributes_text, start_text, end_text, node_text, nodes_text, before_element, outside_text, in_form, text_of, text_character}
 use Rattle.document_model.specs.Plain.{IsPlainNode}
-use Rattle.document_model.specs.PlainText.{ArePlain, IsPlainTree, plain_start, plain_end, plain_text, plain_texts, plain_lines}
+use Rattle.document_model.specs.PlainText.{ArePlain, IsPlainTree, plain_start, plain_text, plain_texts, plain_lines}
 
 -- Plain elements declare nothing.
 

@@ -1,9 +1,9 @@
 -- Plain documents: elements and ASCII text, with no attribute, reference, CDATA section, comment, PI or carriage return. That they are
 -- read apart is this project's own step on the way to all documents.
-use Rattle.std.specs.Prelude.{◌≡◌, ℕ, suc, Bool, true, false, not, ◌&&◌, ◌||◌, ◌==◌, nat_le, if◌then◌else◌, List, [], ◌∷◌, Option, Some, None, option_map}
+use Rattle.std.specs.Prelude.{◌≡◌, ℕ, suc, Bool, not, ◌&&◌, ◌||◌, ◌==◌, nat_le, if◌then◌else◌, List, [], ◌∷◌, Option, Some, None, option_map}
 use Rattle.document_model.specs.Characters.{begins_with}
 use Rattle.document_model.specs.Tree.{Node, Element, Text, Comment, Instruction}
-use Rattle.document_model.specs.Items.{Item, declaration, start_tag, empty_tag, end_tag, character, reference, cdata, comment, instruction}
+use Rattle.document_model.specs.Items.{Item, start_tag, empty_tag, end_tag, character}
 
 -- a byte that a plain document may have: ASCII, but no `&`, `=`, `:` and CR
 abbrev pub is_plain_byte : ℕ → Bool

@@ -1,6 +1,5 @@
 use Rattle.std.proofs.Common.{◌≡◌, ℕ, List, ◌++◌, OnOk, subst, sym, ◌∙◌, ap}
-use Rattle.std.specs.Prelude.{flat_map, encode_utf8_all}
-use Rattle.std.specs.Str.{chars}
+use Rattle.std.specs.Prelude.{flat_map}
 use Rattle.document_model.specs.Canonical.{text_character}
 use Rattle.canon_forms.proofs.EscapedTexts.{escaped_bytes}
 use Rattle.canon_forms.proofs.escapes.put_run.Goals as goal

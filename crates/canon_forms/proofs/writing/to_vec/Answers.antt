@@ -1,4 +1,4 @@
-use Rattle.std.proofs.Common.{◌≡◌, ℕ, suc, List, [], ◌++◌, ◌∷◌, length, true, false, subst, sym, ◌∙◌}
+use Rattle.std.proofs.Common.{◌≡◌, ℕ, suc, [], ◌++◌, ◌∷◌, length, true, false, subst, sym, ◌∙◌}
 use Rattle.std.specs.Prelude.{encode_utf8_all}
 use Rattle.document_model.specs.PlainText.{plain_lines}
 use Rattle.doc_spans.specs.Below.{nodes_from}
@@ -19,9 +19,12 @@ loop-node-preserved-then-is_element c =
     let next = child_of doc [] i _ _ c.in-Some.node c.in-Some.ensures.steps c.loop-node.invariant.2 in
     let more : suc i ≡ length (c.loop-node.yielded ++ c.in-Some.node ∷ []) = one_more c.loop-node.yielded c.in-Some.node in
     let P : ℕ → Type 0 = λ n. NameBelow doc [] n (rest c.next.new.self) in
-    let Q : ℕ → Type 0 = λ n. c.put_node.new.out ++ encode_utf8_all (plain_lines true (nodes_from n (document_in doc))) ≡ encode_utf8_all (plain_lines false (document_in doc)) in
-    (tt, tt, subst P more next.later,
-    subst Q more (first_written doc i c.in-Some.node _ c.loop-node.out c.put_node.new.out _ c.loop-node.behind next (sym c.is_element.ensures ∙ c.if-is_element.true) c.in_ok-put_node.ensures c.loop-node.invariant.3))
+    let Q : ℕ → Type 0 = λ n. c.put_node.new.out ++ encode_utf8_all (plain_lines true (nodes_from n (document_in doc))) ≡ encode_utf8_all (plain_lines false (document_in doc)) in (
+      tt,
+      tt,
+      subst P more next.later,
+      subst Q more (first_written doc i c.in-Some.node _ c.loop-node.out c.put_node.new.out _ c.loop-node.behind next (sym c.is_element.ensures ∙ c.if-is_element.true) c.in_ok-put_node.ensures c.loop-node.invariant.3),
+    )
 
 pub loop-node-preserved : goal.loop-node-preserved
 loop-node-preserved c =
@@ -30,9 +33,12 @@ loop-node-preserved c =
     let next = child_of doc [] i _ _ c.in-Some.node c.in-Some.ensures.steps c.loop-node.invariant.2 in
     let more : suc i ≡ length (c.loop-node.yielded ++ c.in-Some.node ∷ []) = one_more c.loop-node.yielded c.in-Some.node in
     let P : ℕ → Type 0 = λ n. NameBelow doc [] n (rest c.next.new.self) in
-    let Q : ℕ → Type 0 = λ n. c.put_line.new.out ++ encode_utf8_all (plain_lines c.loop-node.behind (nodes_from n (document_in doc))) ≡ encode_utf8_all (plain_lines false (document_in doc)) in
-    (tt, tt, subst P more next.later,
-    subst Q more (other_written doc i c.in-Some.node _ c.loop-node.out c.put_line.new.out _ c.loop-node.behind next (sym c.is_element.ensures ∙ c.if-is_element.false) c.in_ok-put_line.ensures c.loop-node.invariant.3))
+    let Q : ℕ → Type 0 = λ n. c.put_line.new.out ++ encode_utf8_all (plain_lines c.loop-node.behind (nodes_from n (document_in doc))) ≡ encode_utf8_all (plain_lines false (document_in doc)) in (
+      tt,
+      tt,
+      subst P more next.later,
+      subst Q more (other_written doc i c.in-Some.node _ c.loop-node.out c.put_line.new.out _ c.loop-node.behind next (sym c.is_element.ensures ∙ c.if-is_element.false) c.in_ok-put_line.ensures c.loop-node.invariant.3),
+    )
 
 pub returns : goal.returns
 returns c =
