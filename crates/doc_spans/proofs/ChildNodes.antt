@@ -10,13 +10,15 @@ use Rattle.document_model.specs.Documents.{run, limits, document_of}
 use Rattle.document_model.specs.Places.{Place, places_of}
 use Rattle.doc_spans.specs.Marks.{items_of, places_after}
 use Rattle.doc_spans.specs.Shown.{Shown, IsShownOf, path_at, is_child, children_from, children_of}
-use Rattle.doc_spans.specs.Seen.{nodes_at, paths_below}
+use Rattle.doc_spans.specs.Seen.{nodes_at}
+use Rattle.doc_spans.specs.Below.{paths_below}
 use Rattle.doc_spans.specs.View.{Each, under}
 use Rattle.doc_spans.proofs.AllNamed.{Has, all_named}
 use Rattle.doc_spans.proofs.Each.{each_get, some_is}
 use Rattle.doc_spans.proofs.Marks.{onto, eq_self}
 use Rattle.doc_spans.proofs.Named.{IsNode, paths}
 use Rattle.doc_spans.proofs.NodeTexts.{Stands, stands_at, all_of_each, each_of_all}
+use Rattle.doc_spans.proofs.Numbered.{AreNumbered}
 use Rattle.doc_spans.proofs.Run.{run_good, places_of_run}
 use Rattle.doc_spans.proofs.TextPlaces.{same_or_not}
 
@@ -27,7 +29,7 @@ nth_within k no_nodes node e = absurd (none-some node e)
 nth_within zero (first ⨾ nodes) node e = omega arith
 nth_within (suc k) (first ⨾ nodes) node e = let h = nth_within k nodes node e in omega (arith, h)
 
-nth_there : (k : ℕ) (nodes : Nodes) → k < count nodes → (node : Node) × (nth k nodes ≡ Some node)
+pub nth_there : (k : ℕ) (nodes : Nodes) → k < count nodes → (node : Node) × (nth k nodes ≡ Some node)
 nth_there k no_nodes h = absurd (omega (arith, h))
 nth_there zero (first ⨾ nodes) h = (first, refl)
 nth_there (suc k) (first ⨾ nodes) h = nth_there k nodes (omega (arith, h))
@@ -129,9 +131,6 @@ path_at_place shown q place e = ap (λ o. option_map_or (λ path. path) o []) (g
 
 -- The children are as many as the nodes there.
 
-abbrev pub AreNumbered : Shown → Path → Type 0
-AreNumbered shown path = map (path_at shown) (children_of shown path) ≡ paths_below path 0 (length (children_of shown path))
-
 no_more : (shown : Shown) (bytes : List ℕ) (path : Path) → IsShownOf shown bytes → AreNumbered shown path
     → length (children_of shown path) ≤ count (nodes_at (document_of bytes) path)
 no_more shown bytes path is numbered = by_length (length (children_of shown path)) refl
@@ -152,14 +151,14 @@ no_more shown bytes path is numbered = by_length (length (children_of shown path
         omega (arith, h)
 
 -- a place with a path, or none
-find_path : (target : Path) (places : List Place) → ((q : ℕ) × (place : Place) × (slice_get places q ≡ Some place) × (place.path ≡ target)) ⊎ Each (λ place. place.path ≡ target → ⊥) places
+pub find_path : (target : Path) (places : List Place) → ((q : ℕ) × (place : Place) × (slice_get places q ≡ Some place) × (place.path ≡ target)) ⊎ Each (λ place. place.path ≡ target → ⊥) places
 find_path target [] = inr tt
 find_path target (place ∷ places) = elim (same_or_not place.path target) [
   | inl same ↦ inl (0, place, refl, same)
   | inr other ↦ elim (find_path target places) [ inl h ↦ inl (suc h.0, h.1, h.2, h.3) | inr h ↦ inr (other, h) ]
 ]
 
-has_place : (ps : List Place) (path : Path) → Has (paths ps) path → Each (λ place. place.path ≡ path → ⊥) ps → ⊥
+pub has_place : (ps : List Place) (path : Path) → Has (paths ps) path → Each (λ place. place.path ≡ path → ⊥) ps → ⊥
 has_place [] path h none = none-some path h.1
 has_place (place ∷ ps) path h none = by_number (λ k e. has_place ps path (k, e) none.1) h.0 h.1
   where

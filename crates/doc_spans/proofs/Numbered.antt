@@ -1,14 +1,15 @@
 -- The children of a node, by rising numbers, have the paths of its first child, its second, and so on.
-use Rattle.std.proofs.Common.{◌≡◌, ℕ, zero, suc, ◌+◌, ◌≤◌, Bool, true, false, cond, List, [], ◌∷◌, ◌++◌, length, take, drop, Some, sym, ◌∙◌, ap, arith, nat_eq, inl, inr}
+use Rattle.std.proofs.Common.{◌≡◌, ℕ, zero, suc, ◌+◌, ◌<◌, ◌≤◌, ◌⊎◌, subst, Bool, true, false, cond, List, [], ◌∷◌, ◌++◌, length, take, drop, Some, sym, ◌∙◌, ap, arith, nat_eq, inl, inr}
 use Rattle.std.proofs.lemmas.Option.{none-some}
 use Rattle.std.proofs.lemmas.Bool.Decides.{eqb_tells}
 use Rattle.std.specs.Prelude.{map, slice_get}
 use Rattle.document_model.specs.Tree.{Path}
 use Rattle.document_model.specs.Places.{Place}
 use Rattle.doc_spans.specs.declared.rows.Row.{Row}
-use Rattle.doc_spans.specs.View.{siblings, under, paths_of, parents_of, places_of_rows, IsTree}
-use Rattle.doc_spans.specs.Seen.{paths_below}
-use Rattle.doc_spans.specs.Shown.{children_from}
+use Rattle.doc_spans.specs.View.{siblings, under, paths_of, parents_of, places_of_rows, IsTree, none}
+use Rattle.doc_spans.specs.Below.{paths_below}
+use Rattle.doc_spans.specs.Shown.{Shown, shown_of, path_at, children_from, children_of}
+use Rattle.doc_spans.proofs.Builds.{row_paths}
 use Rattle.doc_spans.proofs.Each.{some_is}
 use Rattle.doc_spans.proofs.View.{get_inside, parents_many, has_paths, under_get}
 use Rattle.doc_spans.proofs.Shows.{IsNumber, few_parents, child_of, drop_get, drop_past, get_or_past, path_of_place, shown_many}
@@ -76,3 +77,21 @@ children_numbered rows t n number (suc m) j e = elim (get_or_past (places_of_row
               ∙ others ∙ ap (λ c. paths_below outer c (length rest)) same
               ∙ sym (ap (λ l. paths_below outer (siblings n (take j ps)) (length l)) is)
         ]
+
+-- the children of a number have the paths of the first child, the second, and so on
+abbrev pub AreNumbered : Shown → Path → Type 0
+AreNumbered shown path = map (path_at shown) (children_of shown path) ≡ paths_below path 0 (length (children_of shown path))
+
+numbered_of : (rows : List Row) → IsTree rows → (n : ℕ) → IsNumber (parents_of rows) n → AreNumbered (shown_of rows) (path_at (shown_of rows) n)
+numbered_of rows t n number =
+    let places = places_of_rows rows in
+    let P : List Path → Type 0 = λ ps. map (under ps) (children_from (under ps n) 0 places) ≡ paths_below (under ps n) 0 (length (children_from (under ps n) 0 places)) in
+    subst P (sym (row_paths rows)) (children_numbered rows t n number (length rows) 0 (omega arith))
+
+pub numbered_in : (rows : List Row) (shown : Shown) → IsTree rows → shown_of rows ≡ shown → (n : ℕ) → (n < length shown.places) ⊎ (n ≡ none) → AreNumbered shown (path_at shown n)
+numbered_in rows shown t view n within =
+    let P : Shown → Type 0 = λ s. AreNumbered s (path_at s n) in
+    let many = shown_many rows in
+    let parents = parents_many rows in
+    let same = ap (λ (s : Shown). length s.places) view in
+    subst P view (numbered_of rows t n (elim within [ inl h ↦ inl (omega (arith, h, many, parents, same)) | inr h ↦ inr h ]))

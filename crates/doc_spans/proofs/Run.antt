@@ -76,7 +76,7 @@ some_byte : (text : List ℕ) → HasByte text → 0 < length text
 some_byte [] h = absurd h
 some_byte (b ∷ text) h = omega arith
 
-piece_has : (bytes : List ℕ) (found : Piece × List ℕ) → piece_at bytes ≡ Some found → 0 < length found.0.text
+pub piece_has : (bytes : List ℕ) (found : Piece × List ℕ) → piece_at bytes ≡ Some found → 0 < length found.0.text
 unfolding piece_at is_utf8 chars
 piece_has [] found e = absurd (none-some found e)
 piece_has (b ∷ bytes) found e =

@@ -1,12 +1,14 @@
 -- What a clause sees of a document: its bytes, the tree that they spell, and which node each number names.
-use Rattle.std.specs.Prelude.{ℕ, zero, suc, ◌<◌, List, [], ◌∷◌, ◌++◌, length, Option, None, Some, slice_get}
+use Rattle.std.specs.Prelude.{◌≡◌, ℕ, zero, suc, ◌-◌, ◌<◌, List, [], ◌∷◌, ◌++◌, length, Option, None, Some, slice_get, map}
+use Rattle.std.specs.List.{All}
 use Rattle.std.specs.Option.{option_map_or}
 use Rattle.doc_spans.specs.declared.documents.Doc.{Doc}
 use Rattle.doc_spans.specs.declared.documents.NodeId.{NodeId}
 use Rattle.document_model.specs.Names.{spelled}
-use Rattle.document_model.specs.Tree.{Node, Nodes, Path, Element, Text, Comment, Instruction, no_nodes, node_at, below}
+use Rattle.document_model.specs.Tree.{Node, Nodes, Path, Element, Text, Comment, Instruction, no_nodes, node_at, below, count}
 use Rattle.document_model.specs.Places.{Place}
 use Rattle.document_model.specs.Documents.{document_of}
+use Rattle.doc_spans.specs.Below.{paths_below}
 use Rattle.doc_spans.specs.Shown.{Shown, path_at}
 
 abbrev pub bytes_in : Doc → List ℕ
@@ -38,14 +40,14 @@ abbrev pub nodes_at : Nodes → Path → Nodes
 nodes_at document [] = document
 nodes_at document (k ∷ path) = option_map_or below (node_at document (k ∷ path)) no_nodes
 
--- the paths of so many children, from the i-th on
-abbrev pub paths_below : Path → ℕ → ℕ → List Path
-paths_below outer i zero = []
-paths_below outer i (suc n) = (outer ++ i ∷ []) ∷ paths_below outer (suc i) n
-
 -- the nodes that a node holds
 abbrev pub nodes_in : Doc → NodeId → Nodes
 nodes_in doc node = nodes_at (document_in doc) (path_in doc node)
+
+-- the numbers name all nodes right below a path from the i-th on, in their order
+pub record NameBelow (doc : Doc) (path : Path) (i : ℕ) (numbers : List ℕ) : Type 0 where
+  pub within : All (λ k. k < length (shown_in doc).places) numbers
+  pub paths : map (path_at (shown_in doc)) numbers ≡ paths_below path i (count (nodes_at (document_in doc) path) - i)
 
 -- the name of an element as it is written, or the target of a PI
 abbrev pub name_of_node : Node → List ℕ

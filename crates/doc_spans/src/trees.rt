@@ -1,6 +1,7 @@
 //! The tree of a document: its rows, seen as the places and kinds of its nodes.
 
-ghost use Rattle.std.specs.Prelude.{◌≡◌, ◌<◌, length, []};
+ghost use Rattle.std.specs.Prelude.{◌≡◌, ◌<◌, length, [], map};
+ghost use Rattle.doc_spans.specs.Below.{paths_below};
 ghost use Rattle.std.specs.Prelude.{◌⊎◌};
 ghost use Rattle.doc_spans.specs.Shown.{path_at, IsChild, children_of};
 ghost use Rattle.doc_spans.specs.View.{none};
@@ -47,6 +48,7 @@ impl Tree {
         ensures children { children_of self.now (path_at self.now node) ≡ later_children self.now (path_at self.now node) result }
         ensures child { IsChild self.now (path_at self.now node) result }
         ensures top { path_at self.now none ≡ [] }
+        ensures numbered { map (path_at self.now) (children_of self.now (path_at self.now node)) ≡ paths_below (path_at self.now node) 0 (length (children_of self.now (path_at self.now node))) }
     {
         let number = node as usize;
         if number < self.rows.len() {

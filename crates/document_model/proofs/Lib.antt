@@ -11,6 +11,7 @@ pub mod Put
 mod Inserted
 pub mod Targets
 mod Forms
+pub mod PlainTexts
 pub mod Joins
 pub mod PlainItems
 pub mod Extending

@@ -7,6 +7,7 @@ pub mod Documents
 pub mod Plain
 pub mod NodeSets
 pub mod Canonical
+pub mod PlainText
 pub mod Insertion
 pub mod Places
 pub mod Methods

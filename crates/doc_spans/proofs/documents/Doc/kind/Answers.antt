@@ -37,6 +37,4 @@ codes_set = ℕ_set
 
 pub returns : goal.returns
 returns c =
-    let P : Option Place → Type 0 = λ o. IfSome o (λ place. option_map kind_of (node_at (document_of c.args.self.bytes.now) place.path) ≡ Some c.row.result.now.kind) in
-    subst P (sym c.row.ensures.place)
-    (sym (decoded _) ∙ ap decode (∥∥₁_elim c.args.self.whole (codes_set _ _) (λ w. ap code (w.kinds c.args.node.0 _ _ c.row.ensures.place c.row.ensures.kind))) ∙ decoded _)
+    sym (decoded _) ∙ ap decode (∥∥₁_elim c.args.self.whole (codes_set _ _) (λ w. ap code (w.kinds c.args.node.0 _ _ c.row.ensures.place c.row.ensures.kind))) ∙ decoded _

@@ -1,6 +1,7 @@
 use Rattle.std.proofs.Common.{◌≡◌, ◌+◌, ◌≤◌, length, sym, ◌∙◌, ap, arith, inl, inr}
 use Rattle.doc_spans.specs.Shown.{Shown, path_at}
 use Rattle.doc_spans.specs.View.{none}
+use Rattle.doc_spans.proofs.Numbered.{numbered_in}
 use Rattle.doc_spans.proofs.Shows.{Begin, begin_next, begin_none, begin_top, shown_many, top_path, not_next, not_behind}
 use Rattle.doc_spans.proofs.trees.Tree.first_child.Goals as goal
 use Rattle.doc_spans.proofs.trees.Tree.first_child.Goals.{else-next-len-via-then-next-len+else-index-node, else-next-len-via-else-next-len}
@@ -45,3 +46,12 @@ returns-else-next-len-clause-top c = ap (λ (s : Shown). path_at s none) (sym c.
 
 pub returns-else-number-len-clause-top : goal.returns-else-number-len-clause-top
 returns-else-number-len-clause-top c = ap (λ (s : Shown). path_at s none) (sym c.self.view_is) ∙ top_path c.self.inside.rows.items c.self.invariant
+
+pub returns-then-index-node-clause-numbered : goal.returns-then-index-node-clause-numbered
+returns-then-index-node-clause-numbered c = numbered_in c.self.inside.rows.items c.args.self.now c.self.invariant c.self.view_is c.args.node c.requires
+
+pub returns-else-next-len-clause-numbered : goal.returns-else-next-len-clause-numbered
+returns-else-next-len-clause-numbered c = numbered_in c.self.inside.rows.items c.args.self.now c.self.invariant c.self.view_is c.args.node c.requires
+
+pub returns-else-number-len-clause-numbered : goal.returns-else-number-len-clause-numbered
+returns-else-number-len-clause-numbered c = numbered_in c.self.inside.rows.items c.args.self.now c.self.invariant c.self.view_is c.args.node c.requires
