@@ -6,7 +6,7 @@ ghost use Rattle.document_model.specs.Documents.{limits, Depth, TooMany};
 ghost use Rattle.xml_items.specs.Items.{item_in, IsRead};
 ghost use Rattle.xml_items.specs.Scanned.{piece_in};
 ghost use Rattle.doc_spans.specs.Standing.{is_deep, is_one_too_many, legal_here, fault_with, legal_within_here, after};
-ghost use Rattle.doc_spans.specs.Faults.{fault_in, MissesItem, IsFaultOf, IsPlainFaultOf};
+ghost use Rattle.doc_spans.specs.Faults.{fault_in, MissesItem, IsFirstFault, IsFaultOf};
 ghost use Rattle.doc_spans.specs.Kept.{standing_in};
 ghost use Rattle.doc_spans.specs.Marks.{shape_of};
 ghost use Rattle.doc_spans.specs.Building.{state_of, step};
@@ -38,7 +38,7 @@ impl Tree {
     pub fn read<L>(alloc: Global, bytes: &[u8], steps: &mut Steps<L>) -> Result<Tree, DocFault>
         requires { length bytes.now ≤ 16777216 }
         ensures tree { IfOk result (λ tree. IsPlain bytes.now × IsShownOf tree bytes.now) }
-        ensures fault { IfErr result (λ e. IsPlainFaultOf e bytes.now) }
+        ensures fault { IfErr result (λ e. IsFaultOf e bytes.now) }
         ensures steps { OnOk result (steps.new ≡ counted steps.old (length bytes.now)) }
     {
         match first_not_plain(bytes) {
@@ -198,7 +198,7 @@ fn count_bytes<L>(steps: &mut Steps<L>, bytes: usize)
 fn read_rows<L>(alloc: Global, bytes: &[u8], steps: &mut Steps<L>) -> Result<Builder, DocFault>
     requires { length bytes.now ≤ 16777216 }
     ensures tree { IfOk result (λ builder. IsTree builder.rows.items × IsShownOf (shown_of builder.rows.items) bytes.now) }
-    ensures fault { IfErr result (λ e. IsFaultOf e bytes.now) }
+    ensures fault { IfErr result (λ e. IsFirstFault e bytes.now) }
     ensures steps { OnOk result (steps.new ≡ counted steps.old (length bytes.now)) }
 {
     let mut builder = Builder::new(alloc);
