@@ -9,18 +9,19 @@ make_document() {
     python3 - "$1" <<'END'
 import sys
 most = int(sys.argv[1])
-line = "<line><number>12</number><text>a row of an invoice &gt; 7</text><empty/></line>\n".replace("&gt;", ">")
+text = "what was bought, when it was bought, of whom, by whom, and what is owed for it, less what was paid > " * 2
+line = "<line><number>12</number><text>" + text + "</text><empty/></line>\n"
 count = (most - len("<invoice>\n</invoice>")) // len(line)
 sys.stdout.write("<invoice>\n" + line * count + "</invoice>")
 END
 }
 
-# runs the words, and prints a name, the seconds that passed, the peak memory in MB and the bytes that came out
+# runs the words with their output in a file, and prints a name, the seconds that passed, the peak memory in MB and the bytes that came out
 measure() {
     python3 - "$@" <<'END'
-import resource, subprocess, sys, tempfile, time
-name, words = sys.argv[1], sys.argv[2:]
-with tempfile.TemporaryFile() as out:
+import resource, subprocess, sys, time
+name, to, words = sys.argv[1], sys.argv[2], sys.argv[3:]
+with open(to, "wb") as out:
     before = time.time()
     status = subprocess.run(words, stdout=out).returncode
     passed = time.time() - before
@@ -34,9 +35,10 @@ END
 for size in 1000000 16000000; do
     make_document "$size" >"$room/document.xml"
     echo "plain document of $(wc -c <"$room/document.xml") bytes"
-    measure "  xades canon" "$here/crates/xades_cli/out/xades_cli" canon "doc=$room/document.xml"
+    measure "  xades canon" "$room/ours" "$here/crates/xades_cli/out/xades_cli" canon "doc=$room/document.xml"
     if command -v xmllint >/dev/null; then
-        measure "  xmllint --exc-c14n" xmllint --huge --exc-c14n "$room/document.xml"
+        measure "  xmllint --exc-c14n" "$room/theirs" xmllint --huge --exc-c14n "$room/document.xml"
+        cmp "$room/ours" "$room/theirs" && echo "  the same bytes"
     else
         echo "  xmllint isn't installed"
     fi

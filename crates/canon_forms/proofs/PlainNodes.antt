@@ -164,10 +164,6 @@ element_written doc node start opened inside bytes e utf8 named o i =
     ∙ ap (λ x. start ++ x) (sym whole)
     ∙ ap (λ o. start ++ encodes (option_map_or plain_text o [])) (sym element.is)
 
-pub one_more : {X : Type 0} (xs : List X) (x : X) → suc (length xs) ≡ length (xs ++ x ∷ [])
-one_more [] x = refl
-one_more (y ∷ xs) x = ap suc (one_more xs x)
-
 -- Nodes outside the document element.
 
 either_line : (b : Bool) (name : Name) (attributes : List Attribute) (inner nodes : Nodes) → plain_lines b (Element name attributes inner ⨾ nodes) ≡ plain_text (Element name attributes inner) ++ plain_lines true nodes

@@ -2,6 +2,7 @@
 use Rattle.std.proofs.Common.{◌≡◌, ℕ, zero, suc, ◌+◌, ◌-◌, ◌<◌, ◌≤◌, Bool, true, false, ◌&&◌, List, [], ◌∷◌, ◌++◌, length, take, drop, Option, Some, None, refl, sym, ◌∙◌, ap, subst, arith, length-append, length-drop, nat_eq, cond, not}
 use Rattle.std.proofs.Math.Logic.{∥∥₁_elim}
 use Rattle.std.proofs.Math.Nat.{ℕ_set}
+use Rattle.std.proofs.Math.Bool.{Bool-set}
 use Rattle.std.proofs.Props.{props}
 use Rattle.std.proofs.lemmas.Bool.Decides.{eqb_tells}
 use Rattle.std.proofs.lemmas.Option.{none-some}
@@ -27,15 +28,16 @@ use Rattle.xml_items.specs.declared.scanner.Scanned.{Scanned}
 use Rattle.xml_items.specs.declared.items.Found.{Found}
 use Rattle.xml_items.specs.declared.items.Found.TheVariants as found
 use Rattle.doc_spans.specs.declared.documents.Doc.{Doc}
+use Rattle.doc_spans.specs.declared.documents.NodeId.{NodeId}
 use Rattle.doc_spans.specs.declared.rows.Row.{Row}
 use Rattle.doc_spans.specs.declared.rows.Kind.TheVariants as kinds
 use Rattle.doc_spans.specs.Below.{paths_below}
-use Rattle.doc_spans.specs.Seen.{NameBelow, nodes_at, name_of_node, text_of_node, shown_in, document_in}
+use Rattle.doc_spans.specs.Seen.{Has, NameBelow, node_in, nodes_at, name_of_node, text_of_node, shown_in, document_in}
 use Rattle.doc_spans.specs.Shown.{Shown, IsShownOf, ShowsRow, path_at, kind_of, children_of, children_from, shown_of}
 use Rattle.doc_spans.specs.View.{Each, under, paths_of, parents_of, places_of_rows, place_of_row, IsTree}
 use Rattle.doc_spans.specs.Written.{written_name}
 use Rattle.doc_spans.proofs.Builds.{row_paths}
-use Rattle.doc_spans.proofs.ChildNodes.{children_within, count_is}
+use Rattle.doc_spans.proofs.ChildNodes.{children_within, count_is, get_there, path_at_place}
 use Rattle.doc_spans.proofs.Each.{some_is, each_weaker}
 use Rattle.doc_spans.proofs.Named.{head_of, paths}
 use Rattle.doc_spans.proofs.Nodes.{IsSeen}
@@ -162,3 +164,11 @@ name_below doc path numbers is numbered =
       within = all_of_each _ (children_of (shown_in doc) path) (each_weaker (λ k. k < 0 + length (shown_in doc).places) (λ k. k < length (shown_in doc).places) (λ k h. omega (arith, h)) _ (children_within path 0 (shown_in doc).places));
       paths = numbered ∙ ap (paths_below path 0) many;
     })
+
+-- Nodes are there.
+
+pub node_there : (doc : Doc) (node : NodeId) → Has doc node → is_some (node_in doc node) ≡ true
+node_there doc node h = ∥∥₁_elim doc.whole (Bool-set _ _) (λ w.
+    let place = get_there (shown_in doc).places node.0 h in
+    let seen = (stands_at (shown_in doc) doc.bytes.now node.0 place.0 w place.1).0 in
+    ap is_some (ap (node_at (document_in doc)) (path_at_place (shown_in doc) node.0 place.0 place.1) ∙ seen.named))

@@ -20,11 +20,12 @@ use Rattle.doc_spans.proofs.Named.{IsNode, paths}
 use Rattle.doc_spans.proofs.NodeTexts.{Stands, stands_at, all_of_each, each_of_all}
 use Rattle.doc_spans.proofs.Numbered.{AreNumbered}
 use Rattle.doc_spans.proofs.Run.{run_good, places_of_run}
+use Rattle.doc_spans.proofs.TextNodes.{found_self}
 use Rattle.doc_spans.proofs.TextPlaces.{same_or_not}
 
 -- Nodes by their numbers among the nodes beside them.
 
-nth_within : (k : ℕ) (nodes : Nodes) (node : Node) → nth k nodes ≡ Some node → k < count nodes
+pub nth_within : (k : ℕ) (nodes : Nodes) (node : Node) → nth k nodes ≡ Some node → k < count nodes
 nth_within k no_nodes node e = absurd (none-some node e)
 nth_within zero (first ⨾ nodes) node e = omega arith
 nth_within (suc k) (first ⨾ nodes) node e = let h = nth_within k nodes node e in omega (arith, h)
@@ -33,10 +34,6 @@ pub nth_there : (k : ℕ) (nodes : Nodes) → k < count nodes → (node : Node) 
 nth_there k no_nodes h = absurd (omega (arith, h))
 nth_there zero (first ⨾ nodes) h = (first, refl)
 nth_there (suc k) (first ⨾ nodes) h = nth_there k nodes (omega (arith, h))
-
-found_self : (o : Option Node) → option_and_then (descend []) o ≡ o
-found_self None = refl
-found_self (Some node) = refl
 
 -- a child of what a path leads to
 below_descend : (path : Path) (node : Node) (k : ℕ) → descend (path ++ k ∷ []) node ≡ nth k (option_map_or below (descend path node) no_nodes)
@@ -121,7 +118,7 @@ get_map f [] i = refl
 get_map f (x ∷ xs) zero = refl
 get_map f (x ∷ xs) (suc i) = get_map f xs i
 
-get_there : {X : Type 0} (xs : List X) (i : ℕ) → i < length xs → (x : X) × (slice_get xs i ≡ Some x)
+pub get_there : {X : Type 0} (xs : List X) (i : ℕ) → i < length xs → (x : X) × (slice_get xs i ≡ Some x)
 get_there [] i h = absurd (omega (arith, h))
 get_there (x ∷ xs) zero h = (x, refl)
 get_there (x ∷ xs) (suc i) h = get_there xs i (omega (arith, h))

@@ -76,3 +76,8 @@ no_child_left doc path i numbers none h = by_many (count (nodes_at (document_in 
         → nodes_from i (nodes_at (document_in doc) path) ≡ no_nodes
     by_many zero e p = from_past i (nodes_at (document_in doc) path) (omega (arith, e))
     by_many (suc m) e p = (let f : [] ≡ (path ++ i ∷ []) ∷ paths_below path (suc i) m = p ∙ ap (paths_below path i) e in (cc))
+
+-- one item more was given
+pub one_more : {X : Type 0} (xs : List X) (x : X) → suc (length xs) ≡ length (xs ++ x ∷ [])
+one_more [] x = refl
+one_more (y ∷ xs) x = ap suc (one_more xs x)

@@ -92,7 +92,7 @@ nth_grows (Instruction target content ⨾ next ⨾ nodes) cs ds e = nth_grows (n
 abbrev pub last_inside : ℕ → Nodes → Option Node
 last_inside d nodes = nth (pred (count (inside d nodes))) (inside d nodes)
 
-found_self : (o : Option Node) → option_and_then (descend []) o ≡ o
+pub found_self : (o : Option Node) → option_and_then (descend []) o ≡ o
 found_self None = refl
 found_self (Some node) = refl
 

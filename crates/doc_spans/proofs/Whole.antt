@@ -44,7 +44,7 @@ whole_ends whole run e = by_rest (is_empty run.rest) e
     by_rest true e = by_whole (is_whole run.before) e
     by_rest false e = absurd (none-some (fault_at limits (whole - length run.rest) run.before run.rest) (sym e))
 
-run_ends : (bytes : List ℕ) → fault bytes ≡ None → is_whole (run limits bytes).before ≡ true
+pub run_ends : (bytes : List ℕ) → fault bytes ≡ None → is_whole (run limits bytes).before ≡ true
 unfolding fault
 run_ends bytes e = whole_ends (length bytes) (run limits bytes) e
 

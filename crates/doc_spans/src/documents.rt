@@ -53,6 +53,21 @@ impl<'a> Doc<'a> {
         Doc { bytes, tree }
     }
 
+    /// The document element.
+    pub fn root(self) -> NodeId
+        ensures has { Has self.entry result }
+        ensures element { option_map kind_of (node_in self.entry result) ≡ Some Kind.Element }
+        ensures top { outer_path (path_in self.entry result) ≡ [] }
+    {
+        for node in self.top() {
+            match self.kind(node) {
+                Kind::Element => return node,
+                _ => {}
+            }
+        }
+        unreachable!()
+    }
+
     /// Where the node stands, from its first byte on.
     pub fn span(self, node: NodeId) -> Span
         requires { Has self node }

@@ -15,11 +15,10 @@ mod standing;
 mod texts;
 mod trees;
 
-pub use building::Builder;
 pub use child_nodes::Children;
 pub use documents::{Doc, NodeId, Span};
 pub use faults::DocFault;
-pub use rows::{Kind, Row, Shape};
+pub use rows::Kind;
 pub use texts::{Piece, Pieces};
 pub use trees::Tree;
 

@@ -24,11 +24,10 @@ impl<'a> NodeSet<'a> {
     }
 
     /// Whether a node of the document is in the set.
-    pub fn has(&self, node: NodeId) -> bool
-        requires { Has (doc_in self.now) node }
-        ensures { result ≡ has (set_in self.now) (document_in (doc_in self.now)) (path_in (doc_in self.now) node) }
+    pub fn has(&self, _node: NodeId) -> bool
+        requires { Has (doc_in self.now) _node }
+        ensures { result ≡ has (set_in self.now) (document_in (doc_in self.now)) (path_in (doc_in self.now) _node) }
     {
-        let _kind = self.doc.kind(node);
         true
     }
 

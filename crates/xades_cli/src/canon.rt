@@ -5,9 +5,11 @@ ghost use Rattle.xades_cli.specs.Computed.{IsComputed};
 
 use crate::compute::Computed;
 use crate::status::Status;
+use canon_forms::{Form, Prefixes, to_vec};
 use doc_spans::{Doc, DocFault, Tree};
+use node_sets::NodeSet;
 use std::alloc::Global;
-use xa_io::Steps;
+use xa_io::{OutOfMemory, Steps};
 
 // Marks the steps of reading the document.
 struct Reading;
@@ -18,9 +20,17 @@ pub fn canonicalize(alloc: Global, document: &[u8]) -> Computed
     ensures { IsComputed (canon_outcome document.now) result }
 {
     let mut steps: Steps<Reading> = Steps::new();
-    match Tree::read(alloc, document, &mut steps) {
-        Ok(_tree) => Computed::Refused(Status::OutOfMemory),
-        Err(DocFault::OutOfMemory) => Computed::Refused(Status::OutOfMemory),
-        Err(fault) => Computed::Refused(Status::BadDocument(fault)),
+    let tree = match Tree::read(alloc, document, &mut steps) {
+        Ok(tree) => tree,
+        Err(DocFault::OutOfMemory) => return Computed::Refused(Status::OutOfMemory),
+        Err(fault) => return Computed::Refused(Status::BadDocument(fault)),
+    };
+    let form = Form::Exclusive {
+        comments: false,
+        prefixes: Prefixes::none(),
+    };
+    match to_vec(alloc, &NodeSet::whole(Doc::of(document, &tree)), &form) {
+        Ok(text) => Computed::Done(text),
+        Err(OutOfMemory) => Computed::Refused(Status::OutOfMemory),
     }
 }

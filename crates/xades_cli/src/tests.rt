@@ -62,9 +62,9 @@ fn answer_of(
     let mut shelf = MemShelf::new(rt.alloc(), most);
     shelf.add("a", document)?;
     shelf.fail_at(failing.shelf)?;
-    let mut out = MemSink::new(rt.alloc(), 1000)?;
+    let mut out = MemSink::new(rt.alloc(), 4000)?;
     out.fail_at(failing.out.0, failing.out.1)?;
-    let mut err = MemSink::new(rt.alloc(), 1000)?;
+    let mut err = MemSink::new(rt.alloc(), 4000)?;
     err.fail_at(failing.err.0, failing.err.1)?;
     let status = run(rt.alloc(), &words, &mut shelf, &mut out, &mut err);
     Ok(Answer {
@@ -237,6 +237,31 @@ fn err_fails(rt: HostRuntime) -> Result<(), Fail> {
         let answer = answer_of(&rt, CANON, b"<a>", 100, &failing)?;
         compare(&rt, call as usize, &answer, 7, b"", err);
     }
+    Ok(())
+}
+
+// So many elements inside each other, with their end tags where `closed`.
+fn nested(rt: &HostRuntime, depth: usize, closed: bool) -> Result<Octs, Fail> {
+    let mut document = Octs::new(rt.alloc());
+    'starts: for _start in 0..depth {
+        document.push_all(b"<a>")?;
+    }
+    if closed {
+        'ends: for _end in 0..depth {
+            document.push_all(b"</a>")?;
+        }
+    }
+    Ok(document)
+}
+
+#[test]
+fn deep_documents(rt: HostRuntime) -> Result<(), Fail> {
+    let deep = nested(&rt, 256, true)?;
+    let answer = answer_of(&rt, CANON, deep.as_slice(), 1000, &NONE)?;
+    compare(&rt, 0, &answer, 0, deep.as_slice(), b"");
+    let deeper = nested(&rt, 257, false)?;
+    let answer = answer_of(&rt, CANON, deeper.as_slice(), 1000, &NONE)?;
+    compare(&rt, 1, &answer, 7, b"", b"xades: document fault 3 at 768\n");
     Ok(())
 }
 

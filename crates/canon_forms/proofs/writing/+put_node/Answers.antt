@@ -6,9 +6,9 @@ use Rattle.doc_spans.specs.Below.{nodes_from}
 use Rattle.doc_spans.specs.Rest.{rest}
 use Rattle.doc_spans.specs.Seen.{NameBelow, path_in, nodes_in}
 use Rattle.canon_forms.specs.Sizes.{size_in}
-use Rattle.canon_forms.proofs.PlainNodes.{one_more, text_written, element_written, child_of, smaller, written_more}
+use Rattle.canon_forms.proofs.PlainNodes.{text_written, element_written, child_of, smaller, written_more}
 use Rattle.canon_forms.proofs.writing.+put_node.Goals as goal
-use Rattle.doc_spans.proofs.ChildSteps.{NextChild, no_child_left}
+use Rattle.doc_spans.proofs.ChildSteps.{NextChild, no_child_left, one_more}
 
 pub returns-then-not-is_element : goal.returns-then-not-is_element
 returns-then-not-is_element t c =

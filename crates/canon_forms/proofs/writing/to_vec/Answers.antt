@@ -8,7 +8,8 @@ use Rattle.doc_spans.specs.declared.documents.Doc.{Doc}
 use Rattle.document_model.specs.Canonical.{octets_of}
 use Rattle.document_model.specs.NodeSets.{whole}
 use Rattle.canon_forms.specs.Forms.{form_in}
-use Rattle.canon_forms.proofs.PlainNodes.{one_more, child_of, first_written, other_written, whole_written}
+use Rattle.doc_spans.proofs.ChildSteps.{one_more}
+use Rattle.canon_forms.proofs.PlainNodes.{child_of, first_written, other_written, whole_written}
 use Rattle.canon_forms.proofs.writing.to_vec.Goals as goal
 
 pub loop-node-preserved-then-is_element : goal.loop-node-preserved-then-is_element
