@@ -14,7 +14,7 @@ use Rattle.doc_spans.specs.View.{IsTree}
 use Rattle.doc_spans.specs.Shown.{shown_of, IsShownOf}
 use Rattle.doc_spans.specs.Standing.{Standing, standing_of, is_deep, nodes_added, is_one_too_many, legal_here, legal_within_here, fault_here, is_complete, after}
 use Rattle.document_model.specs.Plain.{IsPlain}
-use Rattle.doc_spans.specs.Faults.{fault_in, IsFaultOf}
+use Rattle.doc_spans.specs.Faults.{fault_in, IsFirstFault, IsFaultOf}
 use Rattle.doc_spans.specs.declared.faults.DocFault.{DocFault}
 use Rattle.doc_spans.specs.declared.faults.DocFault.TheVariants.{Item, Doctype, Depth, Nodes, End, OutOfMemory, NotBuilt}
 use Rattle.xa_io.specs.Causes.{counted}
@@ -143,14 +143,14 @@ read_whole bytes at s st h r e =
 
 -- Faults in the code.
 
-pub fault_found : (e : DocFault) (bytes : List ℕ) (f : Fault) → IsPlain bytes → fault bytes ≡ Some f → fault_in e ≡ Some f → IsFaultOf e bytes
-fault_found (Item at) bytes f plain h k = (plain, h ∙ sym k)
-fault_found (Doctype at) bytes f plain h k = (plain, h ∙ sym k)
-fault_found (Depth at) bytes f plain h k = (plain, h ∙ sym k)
-fault_found (Nodes at) bytes f plain h k = (plain, h ∙ sym k)
-fault_found End bytes f plain h k = (plain, h ∙ sym k)
-fault_found OutOfMemory bytes f plain h k = tt
-fault_found (NotBuilt at) bytes f plain h k = absurd (none-some f k)
+pub fault_found : (e : DocFault) (bytes : List ℕ) (f : Fault) → fault bytes ≡ Some f → fault_in e ≡ Some f → IsFirstFault e bytes
+fault_found (Item at) bytes f h k = h ∙ sym k
+fault_found (Doctype at) bytes f h k = h ∙ sym k
+fault_found (Depth at) bytes f h k = h ∙ sym k
+fault_found (Nodes at) bytes f h k = h ∙ sym k
+fault_found End bytes f h k = h ∙ sym k
+fault_found OutOfMemory bytes f h k = tt
+fault_found (NotBuilt at) bytes f h k = absurd (none-some f k)
 
 -- so many steps were counted from a first count on
 abbrev pub CountedTo : ℕ → ℕ → ℕ → Type 0

@@ -37,15 +37,21 @@ fault_in End = Some documents.End
 fault_in OutOfMemory = None
 fault_in (NotBuilt at) = None
 
--- what a fault says of the bytes: where they are plain, it is their fault
+-- what a fault says of the bytes: it is theirs, with its place
+abbrev pub IsFirstFault : DocFault → List ℕ → Type 0
+IsFirstFault (Item at) bytes = fault bytes ≡ Some (BadItem at)
+IsFirstFault (Doctype at) bytes = fault bytes ≡ Some (documents.Doctype at)
+IsFirstFault (Depth at) bytes = fault bytes ≡ Some (documents.Depth at)
+IsFirstFault (Nodes at) bytes = fault bytes ≡ Some (TooMany at)
+IsFirstFault End bytes = fault bytes ≡ Some documents.End
+IsFirstFault OutOfMemory bytes = Unit {0}
+IsFirstFault (NotBuilt at) bytes = ⊥
+
+-- and while documents are read that are plain alone: the first place that isn't plain comes before all others
 abbrev pub IsFaultOf : DocFault → List ℕ → Type 0
-IsFaultOf (Item at) bytes = IsPlain bytes × (fault bytes ≡ Some (BadItem at))
-IsFaultOf (Doctype at) bytes = IsPlain bytes × (fault bytes ≡ Some (documents.Doctype at))
-IsFaultOf (Depth at) bytes = IsPlain bytes × (fault bytes ≡ Some (documents.Depth at))
-IsFaultOf (Nodes at) bytes = IsPlain bytes × (fault bytes ≡ Some (TooMany at))
-IsFaultOf End bytes = IsPlain bytes × (fault bytes ≡ Some documents.End)
 IsFaultOf OutOfMemory bytes = Unit {0}
 IsFaultOf (NotBuilt at) bytes = first_not_plain bytes ≡ Some at
+IsFaultOf e bytes = IsPlain bytes × IsFirstFault e bytes
 
 -- no legal item within the limits stands at a place, and this is the fault
 abbrev pub MissesItem : Standing → ℕ → List ℕ → DocFault → Type 0

@@ -9,6 +9,8 @@ mod open_tags;
 mod plain;
 mod reading;
 mod rows;
+mod scopes;
+mod soundness;
 mod standing;
 mod texts;
 mod trees;

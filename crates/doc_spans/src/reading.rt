@@ -6,7 +6,7 @@ ghost use Rattle.document_model.specs.Documents.{limits, Depth, TooMany};
 ghost use Rattle.xml_items.specs.Items.{item_in, IsRead};
 ghost use Rattle.xml_items.specs.Scanned.{piece_in};
 ghost use Rattle.doc_spans.specs.Standing.{is_deep, is_one_too_many, legal_here, fault_with, legal_within_here, after};
-ghost use Rattle.doc_spans.specs.Faults.{fault_in, MissesItem, IsFaultOf};
+ghost use Rattle.doc_spans.specs.Faults.{fault_in, MissesItem, IsFirstFault, IsFaultOf};
 ghost use Rattle.doc_spans.specs.Kept.{standing_in};
 ghost use Rattle.doc_spans.specs.Marks.{shape_of};
 ghost use Rattle.doc_spans.specs.Building.{state_of, step};
@@ -53,8 +53,7 @@ impl Tree {
 
 // The item that begins at a place, where it may follow the items before it, the limits aside.
 fn item_there<'a>(bytes: &'a [u8], at: usize, standing: &Standing<'a>) -> Option<Scanned<'a>>
-    requires at { at ≤ length bytes.now }
-    requires plain { IsPlain bytes.now }
+    requires { at ≤ length bytes.now }
     ensures legal { legal_here (standing_in standing.now) (drop at bytes.now) ≡ option_map (piece_in bytes.now at) result }
     ensures within { IfSome result (λ scanned. (at < scanned.end) × (scanned.end ≤ length bytes.now)) }
     ensures read { IfSome result (λ scanned. IsRead scanned.found) }
@@ -79,7 +78,6 @@ fn legal_item<'a>(
 ) -> Result<Scanned<'a>, DocFault>
     requires at { at < length bytes.now }
     requires small { length bytes.now ≤ 16777216 }
-    requires plain { IsPlain bytes.now }
     requires few { standing.now.nodes ≤ limits.nodes }
     ensures legal { IfOk result (λ scanned. legal_within_here (standing_in standing.now) (drop at bytes.now) ≡ Some (piece_in bytes.now at scanned)) }
     ensures within { IfOk result (λ scanned. (at < scanned.end) × (scanned.end ≤ length bytes.now)) }
@@ -196,12 +194,11 @@ fn count_bytes<L>(steps: &mut Steps<L>, bytes: usize)
     }
 }
 
-// The rows of a plain document.
+// The rows of a document.
 fn read_rows<L>(alloc: Global, bytes: &[u8], steps: &mut Steps<L>) -> Result<Builder, DocFault>
-    requires small { length bytes.now ≤ 16777216 }
-    requires plain { IsPlain bytes.now }
+    requires { length bytes.now ≤ 16777216 }
     ensures tree { IfOk result (λ builder. IsTree builder.rows.items × IsShownOf (shown_of builder.rows.items) bytes.now) }
-    ensures fault { IfErr result (λ e. IsFaultOf e bytes.now) }
+    ensures fault { IfErr result (λ e. IsFirstFault e bytes.now) }
     ensures steps { OnOk result (steps.new ≡ counted steps.old (length bytes.now)) }
 {
     let mut builder = Builder::new(alloc);

@@ -5,14 +5,13 @@ ghost use Rattle.document_model.specs.Characters.{is_empty, with_line_ends};
 ghost use Rattle.std.specs.Str.{chars};
 ghost use Rattle.doc_spans.specs.Standing.{standing_of, may_stand, may_stand_as_text, may_open, is_deep, new_texts, nodes_added, is_one_too_many, is_complete, after, outer_after, begins_element, is_the_character, text_after};
 ghost use Rattle.doc_spans.specs.OpenTags.{tag_in, tags_in};
-ghost use Rattle.doc_spans.specs.PlainTags.{IsPlainFound, IsPlainTag};
 ghost use Rattle.document_model.specs.Items.{cdata};
-ghost use Rattle.document_model.specs.Scopes.{is_sound};
 ghost use Rattle.document_model.specs.Documents.{closes, limits};
 ghost use Rattle.xml_items.specs.Found.{name_in, IsNameText};
 ghost use Rattle.xml_items.specs.Items.{item_in, IsRead};
 
 use crate::open_tags::OpenTag;
+use crate::soundness::Scope;
 use std::alloc::{AllocError, Global};
 use xml_items::items::Found;
 use xml_items::names::same_name;
@@ -80,8 +79,7 @@ impl<'a> Standing<'a> {
 
     // Whether an item may follow, the limits aside.
     pub(crate) fn may_stand(&self, found: Found<'a>) -> bool
-        requires read { IsRead found }
-        requires plain { IsPlainFound found }
+        requires { IsRead found }
         ensures { result ≡ may_stand (standing_in self.now) (item_in found.entry) }
     {
         match found {
@@ -97,10 +95,16 @@ impl<'a> Standing<'a> {
     }
 
     fn may_open(&self, tag: OpenTag<'a>) -> bool
-        requires { IsPlainTag tag }
         ensures { result ≡ may_open (standing_in self.now) (tag_in tag.entry).name (tag_in tag.entry).attributes }
     {
-        (!self.is_outside() || !self.begun) && is_sound(&self.open, tag)
+        (!self.is_outside() || !self.begun)
+            && {
+                let scope = Scope {
+                    outer: &self.open,
+                    tag,
+                };
+                scope.is_sound()
+            }
     }
 
     fn may_stand_as_text(&self, c: char) -> bool
@@ -202,14 +206,6 @@ fn closes(name: &str, tags: &Vec<OpenTag>) -> bool
         Some(tag) => same_name(name, tag.name),
         None => false,
     }
-}
-
-// Whether a tag's names and declarations are sound inside the elements that are open.
-fn is_sound<'a>(_outer: &Vec<OpenTag<'a>>, _tag: OpenTag<'a>) -> bool
-    requires { IsPlainTag _tag }
-    ensures { result ≡ is_sound (tags_in _outer.now.items) (tag_in _tag.entry) }
-{
-    true
 }
 
 // The elements that are open after one more item.

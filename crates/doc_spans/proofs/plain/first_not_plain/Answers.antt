@@ -1,6 +1,6 @@
 use Rattle.std.proofs.Common.{◌≡◌, ◌+◌, ◌<◌, ◌∷◌, ◌∙◌, sym, refl, length, drop, get_or, add-one, drop-cons}
 use Rattle.std.proofs.lemmas.List.{take_rest}
-use Rattle.doc_spans.proofs.PlainTags.{plain_more}
+use Rattle.doc_spans.proofs.PlainBytes.{plain_more}
 use Rattle.doc_spans.proofs.plain.first_not_plain.Goals as goal
 
 pub loop-at-preserved : goal.loop-at-preserved

@@ -16,7 +16,7 @@ returns-in_err-item-clause-fault g c =
     let p = err_from_is_err_and c.from_residual.result c.from_residual.ensures.1 in
     let m = c.in_err-item.ensures.fault in
     rw (p.1, p.2)
-    (fault_found c.in_err-item.field-0.0 c.args.bytes.now _ c.requires.plain
+    (fault_found c.in_err-item.field-0.0 c.args.bytes.now _
     (read_fault c.args.bytes.now c.items.at (state_of c.items.builder) (standing_in c.items.standing) c.items-test.true c.items.invariant.0 m.0) m.1)
 
 pub take_item-requires-clause-few : goal.take_item-requires-clause-few
@@ -28,7 +28,7 @@ items-preserved g c =
     let n : c.items.at + (c.in_ok-item.item.end - c.items.at) ≡ c.in_ok-item.item.end = omega (arith, c.in_ok-item.ensures.within.0) in
     let P : ℕ → Type 0 = λ k. CountedTo c.args.steps.now k c.count_bytes.new.steps in (
       read_next c.args.bytes.now c.items.at c.in_ok-item.item.end (state_of c.items.builder) (state_of c.take_item.new.builder) (standing_in c.items.standing) (standing_in c.take_item.new.standing)
-          (piece_in c.args.bytes.now c.items.at c.in_ok-item.item).0 c.requires.small c.in_ok-item.ensures.within.1 c.items.invariant.0 c.in_ok-item.ensures.legal c.in_ok-take_item.ensures.rows c.in_ok-take_item.ensures.standing,
+          (piece_in c.args.bytes.now c.items.at c.in_ok-item.item).0 c.requires c.in_ok-item.ensures.within.1 c.items.invariant.0 c.in_ok-item.ensures.legal c.in_ok-take_item.ensures.rows c.in_ok-take_item.ensures.standing,
       subst P n (counted_next c.args.steps.now c.items.at (c.in_ok-item.item.end - c.items.at) c.items.steps c.count_bytes.new.steps c.items.invariant.1 (omega (arith, c.in_ok-item.ensures.within.0)) c.count_bytes.ensures),
     )
 
@@ -40,8 +40,6 @@ returns-then-is_complete-clause-tree g c =
     )
 
 pub returns-else-is_complete-clause-fault : goal.returns-else-is_complete-clause-fault
-returns-else-is_complete-clause-fault g c = (
-  c.requires.plain,
-  read_all c.args.bytes.now c.items.at (state_of c.items.builder) (standing_in c.items.standing) c.items-test.false c.items.invariant.0
-      ∙ ap (λ b. cond b None (Some End)) (sym c.is_complete.ensures ∙ c.if-is_complete.false),
-)
+returns-else-is_complete-clause-fault g c =
+    read_all c.args.bytes.now c.items.at (state_of c.items.builder) (standing_in c.items.standing) c.items-test.false c.items.invariant.0
+    ∙ ap (λ b. cond b None (Some End)) (sym c.is_complete.ensures ∙ c.if-is_complete.false)

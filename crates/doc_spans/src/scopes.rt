@@ -1,0 +1,147 @@
+//! Scopes of declarations, and whether the names of a tag are sound in them.
+
+ghost use Rattle.std.specs.Prelude.{◌≡◌, not, option_map, codes, IfSome, if◌then◌else◌};
+ghost use Rattle.std.specs.List.{list_all};
+ghost use Rattle.std.specs.Str.{chars};
+ghost use Rattle.document_model.specs.Characters.{is_empty, ◌is◌};
+ghost use Rattle.document_model.specs.Scopes.{xml_space, xmlns_space, declared_prefix, declares, declared_value, declared_space, space_of, may_bind, is_sound_declaration};
+ghost use Rattle.xml_items.specs.Found.{value_in, IsValueText};
+ghost use Rattle.xml_items.specs.Attributes.{attribute_in, attributes_left};
+ghost use Rattle.doc_spans.specs.OpenTags.{tag_in, tags_in};
+
+use crate::open_tags::OpenTag;
+use xml_items::attribute_walk::{Attribute, Attributes};
+use xml_items::texts::{is, is_empty, same};
+use xml_items::value_texts::{is_empty_value, same_values, value_fits};
+
+// The namespace name of the prefix `xml`.
+pub(crate) const XML_SPACE: &str = "http://www.w3.org/XML/1998/namespace";
+
+// The namespace name of the prefix `xmlns`.
+pub(crate) const XMLNS_SPACE: &str = "http://www.w3.org/2000/xmlns/";
+
+// The most bytes of a namespace name.
+const LONGEST_SPACE: usize = 4096;
+
+// The prefix that an attribute declares, empty for the default, where it is a declaration.
+fn declared_prefix<'a>(a: Attribute<'a>) -> Option<&'a str>
+    ensures { declared_prefix (attribute_in a.entry) ≡ option_map (λ p. chars p.now) result }
+{
+    if is_empty(a.prefix) && is(a.local, "xmlns") {
+        Some("")
+    } else if is(a.prefix, "xmlns") {
+        Some(a.local)
+    } else {
+        None
+    }
+}
+
+// Whether an attribute declares a prefix.
+fn declares<'a>(prefix: &str, a: Attribute<'a>) -> bool
+    ensures { result ≡ declares (chars prefix.now) (attribute_in a.entry) }
+{
+    match declared_prefix(a) {
+        Some(declared) => same(declared, prefix),
+        None => false,
+    }
+}
+
+fn is_xml_space(value: &str) -> bool
+    requires { IsValueText value.now }
+    ensures { result ≡ (value_in (chars value.now) is xml_space) }
+{
+    same_values(value, XML_SPACE)
+}
+
+fn is_xmlns_space(value: &str) -> bool
+    requires { IsValueText value.now }
+    ensures { result ≡ (value_in (chars value.now) is xmlns_space) }
+{
+    same_values(value, XMLNS_SPACE)
+}
+
+// Whether a prefix, or the default, may be bound to a value.
+fn may_bind(prefix: &str, value: &str) -> bool
+    requires { IsValueText value.now }
+    ensures { result ≡ may_bind (chars prefix.now) (value_in (chars value.now)) }
+{
+    !is(prefix, "xmlns")
+        && (is_empty(prefix) || !is_empty_value(value))
+        && is_xml_bound_alone(prefix, value)
+        && !is_xmlns_space(value)
+        && value_fits(value, LONGEST_SPACE)
+}
+
+// The prefix `xml` is bound to its own namespace name, and no other is.
+fn is_xml_bound_alone(prefix: &str, value: &str) -> bool
+    requires { IsValueText value.now }
+    ensures { result ≡ (if chars prefix.now is codes "xml" then value_in (chars value.now) is xml_space else not (value_in (chars value.now) is xml_space)) }
+{
+    if is(prefix, "xml") {
+        is_xml_space(value)
+    } else {
+        !is_xml_space(value)
+    }
+}
+
+fn is_sound_declaration<'a>(a: Attribute<'a>) -> bool
+    ensures { result ≡ is_sound_declaration (attribute_in a.entry) }
+{
+    match declared_prefix(a) {
+        Some(prefix) => may_bind(prefix, a.value),
+        None => true,
+    }
+}
+
+// Whether all declarations among attributes are sound.
+pub(crate) fn are_sound_declarations<'a>(attributes: Attributes<'a>) -> bool
+    ensures { result ≡ list_all is_sound_declaration (attributes_left attributes.entry) }
+{
+    let mut rest = attributes;
+    'attributes: loop {
+        match rest.first() {
+            Some((a, behind)) => {
+                if !is_sound_declaration(a) {
+                    return false;
+                }
+                rest = behind;
+            }
+            None => return true,
+        }
+    }
+}
+
+// The value of the first declaration of a prefix.
+pub(crate) fn declared_value<'a>(prefix: &str, attributes: Attributes<'a>) -> Option<&'a str>
+    ensures value { declared_value (chars prefix.now) (attributes_left attributes.entry) ≡ option_map (λ v. value_in (chars v.now)) result }
+    ensures read { IfSome result (λ v. IsValueText v.now) }
+{
+    let mut rest = attributes;
+    'attributes: loop {
+        match rest.first() {
+            Some((a, behind)) => {
+                if declares(prefix, a) {
+                    return Some(a.value);
+                }
+                rest = behind;
+            }
+            None => return None,
+        }
+    }
+}
+
+// The value of a prefix inside elements that are open; the text of an empty value where none declares it.
+pub(crate) fn declared_space<'a>(prefix: &str, outer: &Vec<OpenTag<'a>>) -> &'a str
+    ensures value { value_in (chars result.now) ≡ declared_space (chars prefix.now) (tags_in outer.now.items) }
+    ensures read { IsValueText result.now }
+{
+    let mut left = outer.len();
+    'tags: while left > 0 {
+        left -= 1;
+        let tag = outer[left];
+        if let Some(value) = declared_value(prefix, Attributes::of(tag.attributes)) {
+            return value;
+        }
+    }
+    ""
+}

@@ -1,0 +1,164 @@
+//! Whether a tag's names and declarations are sound where it stands.
+
+ghost use Rattle.std.specs.Prelude.{◌≡◌, ◌||◌, [], not, if◌then◌else◌};
+ghost use Rattle.std.specs.List.{list_all};
+ghost use Rattle.std.specs.Str.{chars};
+ghost use Rattle.document_model.specs.Characters.{is_empty};
+ghost use Rattle.document_model.specs.Names.{same_expanded};
+ghost use Rattle.document_model.specs.Scopes.{declared_space, space_of, is_declared, attribute_name, none_is, are_distinct, is_sound};
+ghost use Rattle.xml_items.specs.Found.{value_in, IsValueText};
+ghost use Rattle.xml_items.specs.Attributes.{attribute_in, attributes_left};
+
+use crate::open_tags::OpenTag;
+use crate::scopes::{
+    XML_SPACE, XMLNS_SPACE, are_sound_declarations, declared_space, declared_value,
+};
+use xml_items::attribute_walk::{Attribute, Attributes};
+use xml_items::names::name_parts;
+use xml_items::texts::{is, is_empty, same};
+use xml_items::value_texts::{is_empty_value, same_values};
+
+// A tag, whose declarations are in scope for its own names, and the elements around it.
+#[derive(Clone, Copy)]
+pub(crate) struct Scope<'s, 'a> {
+    pub(crate) outer: &'s Vec<OpenTag<'a>>,
+    pub(crate) tag: OpenTag<'a>,
+}
+
+impl<'s, 'a> Scope<'s, 'a> {
+    ghost use Rattle.doc_spans.specs.OpenTags.{tag_in, tags_in};
+    ghost use Rattle.doc_spans.specs.ScopesIn.{scope_in, names_in, declares_soundly, names_soundly};
+
+    // The value of a prefix by the declarations; the text of an empty value where there is none.
+    fn declared_space(&self, prefix: &str) -> &'a str
+        ensures value { value_in (chars result.now) ≡ declared_space (chars prefix.now) (scope_in self.now) }
+        ensures read { IsValueText result.now }
+    {
+        match declared_value(prefix, Attributes::of(self.tag.attributes)) {
+            Some(value) => value,
+            None => declared_space(prefix, self.outer),
+        }
+    }
+
+    // The value of a prefix.
+    fn space_of(&self, prefix: &str) -> &'a str
+        ensures value { value_in (chars result.now) ≡ space_of (chars prefix.now) (scope_in self.now) }
+        ensures read { IsValueText result.now }
+    {
+        if is(prefix, "xml") {
+            XML_SPACE
+        } else if is(prefix, "xmlns") {
+            XMLNS_SPACE
+        } else {
+            self.declared_space(prefix)
+        }
+    }
+
+    // Whether a name with this prefix has a namespace, or no prefix.
+    fn is_declared(&self, prefix: &str) -> bool
+        ensures { result ≡ (is_empty (chars prefix.now) || not (is_empty (space_of (chars prefix.now) (scope_in self.now)))) }
+    {
+        is_empty(prefix) || !is_empty_value(self.space_of(prefix))
+    }
+
+    fn are_declared(&self, attributes: Attributes<'a>) -> bool
+        ensures { result ≡ list_all (λ a. is_declared (scope_in self.now) a.name) (attributes_left attributes.entry) }
+    {
+        let mut rest = attributes;
+        'attributes: loop {
+            match rest.first() {
+                Some((a, behind)) => {
+                    if !self.is_declared(a.prefix) {
+                        return false;
+                    }
+                    rest = behind;
+                }
+                None => return true,
+            }
+        }
+    }
+
+    // The namespace name of an attribute's name: the default is not for attributes.
+    fn attribute_space(&self, prefix: &str) -> &'a str
+        ensures value { value_in (chars result.now) ≡ (if is_empty (chars prefix.now) then [] else space_of (chars prefix.now) (scope_in self.now)) }
+        ensures read { IsValueText result.now }
+    {
+        if is_empty(prefix) {
+            ""
+        } else {
+            self.space_of(prefix)
+        }
+    }
+
+    // Whether two attributes have one expanded name.
+    fn are_same(&self, a: Attribute<'a>, b: Attribute<'a>) -> bool
+        ensures { result ≡ same_expanded (attribute_name (scope_in self.now) (attribute_in a.entry).name) (attribute_name (scope_in self.now) (attribute_in b.entry).name) }
+    {
+        same(a.local, b.local)
+            && same_values(
+                self.attribute_space(a.prefix),
+                self.attribute_space(b.prefix),
+            )
+    }
+
+    // Whether no other attribute has the expanded name of this one.
+    fn none_is(&self, a: Attribute<'a>, others: Attributes<'a>) -> bool
+        ensures { result ≡ none_is (attribute_name (scope_in self.now) (attribute_in a.entry).name) (names_in (scope_in self.now) (attributes_left others.entry)) }
+    {
+        let mut rest = others;
+        'others: loop {
+            match rest.first() {
+                Some((other, behind)) => {
+                    if self.are_same(a, other) {
+                        return false;
+                    }
+                    rest = behind;
+                }
+                None => return true,
+            }
+        }
+    }
+
+    // Whether no two attributes have one expanded name.
+    fn are_distinct(&self, attributes: Attributes<'a>) -> bool
+        ensures { result ≡ are_distinct (names_in (scope_in self.now) (attributes_left attributes.entry)) }
+    {
+        let mut rest = attributes;
+        'attributes: loop {
+            match rest.first() {
+                Some((a, behind)) => {
+                    if !self.none_is(a, behind) {
+                        return false;
+                    }
+                    rest = behind;
+                }
+                None => return true,
+            }
+        }
+    }
+
+    // Whether the declarations of the tag are sound, and its own name: "Reserved Prefixes and Namespace Names", "No Prefix Undeclaring".
+    fn has_sound_declarations(&self) -> bool
+        ensures { result ≡ declares_soundly (tags_in self.now.outer.now.items) (tag_in self.now.tag) }
+    {
+        let (prefix, _) = name_parts(self.tag.name);
+        are_sound_declarations(Attributes::of(self.tag.attributes))
+            && !is(prefix, "xmlns")
+            && self.is_declared(prefix)
+    }
+
+    // Whether the names of its attributes are: "Prefix Declared", "Attributes Unique".
+    fn has_sound_attributes(&self) -> bool
+        ensures { result ≡ names_soundly (tags_in self.now.outer.now.items) (tag_in self.now.tag) }
+    {
+        let attributes = Attributes::of(self.tag.attributes);
+        self.are_declared(attributes) && self.are_distinct(attributes)
+    }
+
+    // Whether the tag's names and declarations are sound: Namespaces in XML 1.0.
+    pub(crate) fn is_sound(&self) -> bool
+        ensures { result ≡ is_sound (tags_in self.now.outer.now.items) (tag_in self.now.tag) }
+    {
+        self.has_sound_declarations() && self.has_sound_attributes()
+    }
+}
