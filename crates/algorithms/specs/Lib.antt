@@ -1,0 +1,4 @@
+pub mod DigestKind
+pub mod Held
+pub mod Digests
+pub mod SignatureKind

@@ -1,0 +1,13 @@
+pub mod Rows
+pub mod LmsChains
+pub mod LmsClimb
+pub mod LmsPlaces
+pub mod LmsHolds
+pub mod LmsTwoLevels
+pub mod XmssChains
+pub mod XmssClimb
+pub mod XmssPlaces
+pub mod XmssHolds
+pub mod Trees
+pub mod WorldLaws
+pub mod XmssTrees

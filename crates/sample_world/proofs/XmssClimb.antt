@@ -1,0 +1,123 @@
+-- The path of a made signature leads to the root.
+use Rattle.std.proofs.Common.{◌≡◌, ℕ, zero, suc, ◌+◌, ◌-◌, ◌*◌, ◌/◌, ◌%◌, ◌^◌, ◌<◌, ◌≤◌, List, [], ◌∷◌, ◌++◌, length, refl, ap, sym, ◌∙◌, inl, inr, arith, lit≤}
+use Rattle.std.proofs.lemmas.Bool.{cases_lt}
+use Rattle.std.proofs.Math.Nat.{pow-suc, div-div-eq-div-mul}
+use Rattle.sha2.proofs.Facts256.{length-sha256}
+use Rattle.xmss_verify.specs.declared.address.Place.{Place}
+use Rattle.xmss_verify.specs.declared.address.Place.TheVariants.{LTreePair, TreePair}
+use Rattle.xmss_verify.specs.Wots.{value_at, keyed, chain}
+use Rattle.xmss_verify.specs.Tree.{pair, paired, lifted, only, l_tree, parent, node_over}
+use Rattle.sample_world.specs.Joined.{joined, listed, sibling}
+use Rattle.sample_world.specs.XmssKeys.{leaf, node, path}
+use Rattle.sample_world.proofs.Rows.{value_at-joined}
+use Rattle.sample_world.proofs.XmssChains.{length-chain}
+
+length-pair : (seed : List ℕ) (place : Place) (left right : List ℕ) → length (pair seed place left right) ≡ 32
+unfolding pair keyed
+length-pair seed place left right = length-sha256 _
+
+-- some nodes, each of 32 octets
+abbrev AllLong : List (List ℕ) → Type 0
+AllLong [] = Unit {0}
+AllLong (x ∷ xs) = (length x ≡ 32) × AllLong xs
+
+abbrev Some : List (List ℕ) → Type 0
+Some [] = ⊥
+Some (x ∷ xs) = Unit {0}
+
+long_push : (xs : List (List ℕ)) (y : List ℕ) → AllLong xs → length y ≡ 32 → AllLong (xs ++ y ∷ [])
+long_push [] y h l = (l, tt)
+long_push (x ∷ xs) y h l = (h.0, long_push xs y h.1 l)
+
+some_push : (xs : List (List ℕ)) (y : List ℕ) → Some (xs ++ y ∷ [])
+some_push [] y = tt
+some_push (x ∷ xs) y = tt
+
+long_listed : (f : ℕ → List ℕ) (n : ℕ) → ((i : ℕ) → length (f i) ≡ 32) → AllLong (listed f n)
+unfolding listed
+long_listed f zero each = tt
+long_listed f (suc n) each = long_push (listed f n) (f n) (long_listed f n each) (each n)
+
+some_listed : (f : ℕ → List ℕ) (n : ℕ) → Some (listed f (suc n))
+unfolding listed
+some_listed f n = some_push (listed f n) (f n)
+
+long_paired : (seed : List ℕ) (l h i : ℕ) (nodes : List (List ℕ)) → AllLong nodes → AllLong (paired seed l h i nodes)
+unfolding paired
+long_paired seed l h i [] long = tt
+long_paired seed l h i (x ∷ []) long = long
+long_paired seed l h i (x ∷ y ∷ rest) long = (length-pair seed (LTreePair l h i) x y, long_paired seed l h (suc i) rest long.1.1)
+
+some_paired : (seed : List ℕ) (l h i : ℕ) (nodes : List (List ℕ)) → Some nodes → Some (paired seed l h i nodes)
+unfolding paired
+some_paired seed l h i [] some = some
+some_paired seed l h i (x ∷ []) some = tt
+some_paired seed l h i (x ∷ y ∷ rest) some = tt
+
+long_lifted : (seed : List ℕ) (l : ℕ) (nodes : List (List ℕ)) (n : ℕ) → AllLong nodes → AllLong (lifted seed l nodes n)
+unfolding lifted
+long_lifted seed l nodes zero long = long
+long_lifted seed l nodes (suc n) long = long_paired seed l n 0 (lifted seed l nodes n) (long_lifted seed l nodes n long)
+
+some_lifted : (seed : List ℕ) (l : ℕ) (nodes : List (List ℕ)) (n : ℕ) → Some nodes → Some (lifted seed l nodes n)
+unfolding lifted
+some_lifted seed l nodes zero some = some
+some_lifted seed l nodes (suc n) some = some_paired seed l n 0 (lifted seed l nodes n) (some_lifted seed l nodes n some)
+
+long_only : (nodes : List (List ℕ)) → AllLong nodes → Some nodes → length (only nodes) ≡ 32
+long_only [] long some = absurd some
+long_only (x ∷ rest) long some = long.0
+
+length-leaf : (seed : List ℕ) (x : ℕ → ℕ → List ℕ) (l : ℕ) → ((l i : ℕ) → length (x l i) ≡ 32) → length (leaf seed x l) ≡ 32
+unfolding leaf l_tree
+length-leaf seed x l each =
+    let f = λ (i : ℕ). chain seed l i 0 15 (x l i) in
+    let long = long_listed f 67 (λ i. length-chain seed l i 0 15 (x l i) (each l i)) in
+    long_only (lifted seed l (listed f 67) 7) (long_lifted seed l (listed f 67) 7 long) (some_lifted seed l (listed f 67) 7 (some_listed f 66))
+
+pub length-node : (seed : List ℕ) (x : ℕ → ℕ → List ℕ) (i n : ℕ) → ((l i : ℕ) → length (x l i) ≡ 32) → length (node seed x i n) ≡ 32
+unfolding node
+length-node seed x i zero each = length-leaf seed x i each
+length-node seed x i (suc n) each = length-pair seed (TreePair n i) _ _
+
+parent_is : (seed : List ℕ) (x : ℕ → ℕ → List ℕ) (i n : ℕ) → parent seed n i (node seed x i n) (node seed x (sibling i) n) ≡ node seed x (i / 2) (suc n)
+unfolding parent node
+parent_is seed x i n =
+    elim (cases_lt (i % 2) 1) [
+      | inl low ↦
+          let even : i % 2 ≡ 0 = omega arith in
+          let left : 2 * (i / 2) ≡ i = omega arith in
+          rw (even, left) refl
+      | inr high ↦
+          let odd : i % 2 ≡ 1 = omega arith in
+          let left : 2 * (i / 2) ≡ i - 1 = omega arith in
+          let right : i - 1 + 1 ≡ i = omega arith in
+          rw (odd, left, right) refl
+    ]
+
+halved : (a n : ℕ) → a / 2 ^ n / 2 ≡ a / 2 ^ suc n
+halved a n = rw (pow-suc) (div-div-eq-div-mul a (2 ^ n) 2)
+
+leaf_is : (seed : List ℕ) (x : ℕ → ℕ → List ℕ) (idx : ℕ) → leaf seed x idx ≡ node seed x (idx / 2 ^ 0) 0
+unfolding node
+leaf_is seed x idx = let whole : idx / 2 ^ 0 ≡ idx = omega arith in rw whole refl
+
+path_is : (seed : List ℕ) (x : ℕ → ℕ → List ℕ) (idx : ℕ) → path seed x idx ≡ joined (λ k. node seed x (sibling (idx / 2 ^ k)) k) 10
+unfolding path
+path_is seed x idx = refl
+
+climb : (seed : List ℕ) (x : ℕ → ℕ → List ℕ) (idx n : ℕ) → ((l i : ℕ) → length (x l i) ≡ 32) → n ≤ 10
+    → node_over seed idx (path seed x idx) (leaf seed x idx) n ≡ node seed x (idx / 2 ^ n) n
+unfolding node_over
+climb seed x idx zero each within = leaf_is seed x idx
+climb seed x idx (suc n) each within =
+    let value = climb seed x idx n each (omega arith) in
+    let beside = value_at-joined (λ k. node seed x (sibling (idx / 2 ^ k)) k) 10 n (λ k. length-node seed x (sibling (idx / 2 ^ k)) k each) (omega arith) in
+    let beside' : value_at (path seed x idx) n ≡ node seed x (sibling (idx / 2 ^ n)) n = rw path_is beside in
+    rw (value, beside') (parent_is seed x (idx / 2 ^ n) n ∙ ap (λ z. node seed x z (suc n)) (halved idx n))
+
+pub climbs : (seed : List ℕ) (x : ℕ → ℕ → List ℕ) (idx : ℕ) → ((l i : ℕ) → length (x l i) ≡ 32) → idx < 1024
+    → node_over seed idx (path seed x idx) (leaf seed x idx) 10 ≡ node seed x 0 10
+climbs seed x idx each h =
+    let top : idx / 2 ^ 10 ≡ 0 = omega arith in
+    rw top at (climb seed x idx 10 each (lit≤ tt))

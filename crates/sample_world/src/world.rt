@@ -1,0 +1,206 @@
+//! A world: its keys, how many signatures each has made, and its calls.
+
+ghost use Rattle.std.specs.Prelude.{◌≡◌, ◌≢◌, ◌↔◌, ◌⊎◌, ℕ, ◌+◌, ◌<◌, ◌≤◌, IfOk, IfErr, OnOk, OnErr, length, replicate, slice_index, slice_set, slice_get, Some, Err};
+ghost use Rattle.lms_verify.specs.Hss.{verdict};
+ghost use Rattle.lms_verify.specs.Lms.{u32_at};
+ghost use Rattle.lms_verify.specs.declared.Verdict.TheVariants.{Good};
+ghost use Rattle.sample_world.specs.LmsSeed.{LmsSeed};
+ghost use Rattle.sample_world.specs.World.{Ledger, secret_of, id_of, seed_of, key_of, signature_of, two_signatures_of, xmss_key_of, xmss_signature_of, counted};
+ghost use Rattle.xmss_verify.specs.Xmss as xmss;
+ghost use Rattle.xmss_verify.specs.declared.Verdict.TheVariants as xmss_good;
+
+use crate::lms_trees::LmsTrees;
+use crate::secrets::secret_of;
+use crate::xmss_trees::XmssTrees;
+use std::alloc::{AllocError, Global};
+use std::marker::Model;
+use xa_io::{Octs, OutOfMemory};
+
+/// Why a world gives no octets.
+#[derive(Clone, Copy, Debug, PartialEq, Eq)]
+pub enum WorldFault {
+    /// A key that is needed has made all its signatures: 32 by an LMS key, 1,024 by the XMSS key.
+    Spent,
+    /// Memory could not be had.
+    OutOfMemory,
+}
+
+impl From<AllocError> for WorldFault {
+    ghost use Rattle.std.specs.Prelude.{◌≡◌};
+    ghost use Rattle.sample_world.specs.declared.world.WorldFault.{WorldFault};
+
+    ghost from_gives = { λ _ fault. fault ≡ WorldFault.OutOfMemory };
+
+    fn from(_: AllocError) -> WorldFault {
+        WorldFault::OutOfMemory
+    }
+}
+
+impl From<OutOfMemory> for WorldFault {
+    ghost use Rattle.std.specs.Prelude.{◌≡◌};
+    ghost use Rattle.sample_world.specs.declared.world.WorldFault.{WorldFault};
+
+    ghost from_gives = { λ _ fault. fault ≡ WorldFault.OutOfMemory };
+
+    fn from(_: OutOfMemory) -> WorldFault {
+        WorldFault::OutOfMemory
+    }
+}
+
+/// A world of keys. Contracts see its secret and how many signatures each key has made; the trees
+/// that it keeps make no difference but in time.
+#[derive(Drop)]
+pub struct World {
+    alloc: Global,
+    secret: [u8; 32],
+    used: [u8; 256],
+    xmss_used: u32,
+    lms_trees: LmsTrees,
+    xmss_trees: XmssTrees,
+}
+
+impl Model for World {
+    ghost use Rattle.sample_world.specs.World.{Ledger};
+
+    ghost Value = { Ledger };
+
+    ghost view = { λ w. record { secret = w.secret; used = w.used; xmss_used = w.xmss_used } };
+}
+
+impl World {
+    /// The world of a seed, whose keys have signed nothing.
+    pub fn new(alloc: Global, seed: u64) -> World
+        ensures { result ≡ record { secret = secret_of seed; used = replicate 256 0; xmss_used = 0 } }
+    {
+        World {
+            alloc,
+            secret: secret_of(seed),
+            used: [0; 256],
+            xmss_used: 0,
+            lms_trees: LmsTrees::new(alloc),
+            xmss_trees: XmssTrees::new(alloc),
+        }
+    }
+
+    /// The HSS key, with L = 1, of LMS key `key`. With L = 2 in its fourth octet it is the key under
+    /// which `sign_two` signs.
+    pub fn key(&mut self, key: u32) -> Result<Octs, WorldFault>
+        requires { key < 256 }
+        ensures value { IfOk result (λ k. k ≡ key_of self.old 1 key) }
+        ensures only_memory { IfErr result (λ fault. fault ≡ WorldFault.OutOfMemory) }
+        ensures same { self.new ≡ self.old }
+    {
+        let mut out = Octs::new(self.alloc);
+        out.push_all(&[0, 0, 0, 1])?;
+        self.lms_trees
+            .put_key(self.alloc, &self.secret, key, &mut out)?;
+        Ok(out)
+    }
+
+    /// The next signature, of one level, that LMS key `key` makes. Its q is the number of the key's
+    /// earlier signatures.
+    pub fn sign(&mut self, key: u32, message: &[u8]) -> Result<Octs, WorldFault>
+        requires { key < 256 }
+        ensures value { IfOk result (λ s. s ≡ signature_of self.old key message.now) }
+        ensures good { IfOk result (λ s. verdict (key_of self.old 1 key) message.now s ≡ Good) }
+        ensures number { IfOk result (λ s. u32_at s 4 ≡ slice_index self.old.used key) }
+        ensures counted { OnOk result (self.new ≡ counted self.old key) }
+
+        ensures spent { (result ≡ Err WorldFault.Spent) ↔ (32 ≤ slice_index self.old.used key) }
+        ensures err { OnErr result (self.new ≡ self.old) }
+    {
+        let q = self.used[key as usize];
+        if q >= 32 {
+            return Err(WorldFault::Spent);
+        }
+        let mut out = Octs::new(self.alloc);
+        out.push_all(&[0, 0, 0, 0])?;
+        let trees = &mut self.lms_trees;
+        trees.put_signature(
+            self.alloc,
+            &self.secret,
+            (key, u32::from(q)),
+            message,
+            &mut out,
+        )?;
+        self.used[key as usize] = q + 1;
+        Ok(out)
+    }
+
+    /// The next signature, of two levels, that LMS key `upper` makes: it signs the key `lower`, and
+    /// that signs the message.
+    pub fn sign_two(&mut self, upper: u32, lower: u32, message: &[u8]) -> Result<Octs, WorldFault>
+        requires upper { upper < 256 }
+        requires lower { lower < 256 }
+        requires differ { upper ≢ lower }
+        ensures value { IfOk result (λ s. s ≡ two_signatures_of self.old upper lower message.now) }
+        ensures good { IfOk result (λ s. verdict (key_of self.old 2 upper) message.now s ≡ Good) }
+        ensures counted { OnOk result (self.new ≡ counted (counted self.old upper) lower) }
+
+        ensures spent { (result ≡ Err WorldFault.Spent)
+            ↔ ((32 ≤ slice_index self.old.used upper) ⊎ (32 ≤ slice_index self.old.used lower)) }
+        ensures err { OnErr result (self.new ≡ self.old) }
+    {
+        let q = self.used[upper as usize];
+        let p = self.used[lower as usize];
+        if q >= 32 || p >= 32 {
+            return Err(WorldFault::Spent);
+        }
+        let trees = &mut self.lms_trees;
+        let mut key = Octs::new(self.alloc);
+        trees.put_key(self.alloc, &self.secret, lower, &mut key)?;
+        let signed = key.as_slice();
+        let mut out = Octs::new(self.alloc);
+        out.push_all(&[0, 0, 0, 1])?;
+        trees.put_signature(
+            self.alloc,
+            &self.secret,
+            (upper, u32::from(q)),
+            signed,
+            &mut out,
+        )?;
+        out.push_all(signed)?;
+        trees.put_signature(
+            self.alloc,
+            &self.secret,
+            (lower, u32::from(p)),
+            message,
+            &mut out,
+        )?;
+        self.used[upper as usize] = q + 1;
+        self.used[lower as usize] = p + 1;
+        Ok(out)
+    }
+
+    /// The XMSS key, of set 1.
+    pub fn xmss_key(&mut self) -> Result<Octs, WorldFault>
+        ensures value { IfOk result (λ k. k ≡ xmss_key_of self.old) }
+        ensures only_memory { IfErr result (λ fault. fault ≡ WorldFault.OutOfMemory) }
+        ensures same { self.new ≡ self.old }
+    {
+        let mut out = Octs::new(self.alloc);
+        self.xmss_trees.put_key(self.alloc, &self.secret, &mut out)?;
+        Ok(out)
+    }
+
+    /// The next signature that the XMSS key makes. Its idx is the number of the earlier ones.
+    pub fn xmss_sign(&mut self, message: &[u8]) -> Result<Octs, WorldFault>
+        ensures value { IfOk result (λ s. s ≡ xmss_signature_of self.old message.now) }
+        ensures good { IfOk result (λ s. xmss.verdict (xmss_key_of self.old) message.now s ≡ xmss_good.Good) }
+        ensures number { IfOk result (λ s. xmss.u32_at s 0 ≡ self.old.xmss_used) }
+        ensures counted { OnOk result (self.new ≡ record self.old { xmss_used = self.old.xmss_used + 1 }) }
+
+        ensures spent { (result ≡ Err WorldFault.Spent) ↔ (1024 ≤ self.old.xmss_used) }
+        ensures err { OnErr result (self.new ≡ self.old) }
+    {
+        let idx = self.xmss_used;
+        if idx >= 1024 {
+            return Err(WorldFault::Spent);
+        }
+        let mut out = Octs::new(self.alloc);
+        let trees = &mut self.xmss_trees;
+        trees.put_signature(self.alloc, &self.secret, idx, message, &mut out)?;
+        self.xmss_used = idx + 1;
+        Ok(out)
+    }
+}

@@ -1,0 +1,5 @@
+pub mod Octets
+pub mod Chains
+pub mod Paths
+pub mod Shape
+pub mod Parts

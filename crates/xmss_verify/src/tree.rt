@@ -1,0 +1,97 @@
+//! The L-tree over a leaf's chains, the tree's nodes, and the root over a leaf and its path (RFC
+//! 8391, sections 4.1.4, 4.1.5 and 4.1.10). A signer makes the same nodes.
+
+ghost use Rattle.std.specs.Prelude.{◌≡◌, ℕ, List, ◌+◌, ◌-◌, ◌*◌, ◌/◌, ◌^◌, ◌<◌, ◌≤◌, ◌++◌, length, take, drop};
+ghost use Rattle.xmss_verify.specs.Tree.{pair, paired, lifted, l_tree, parent, node_over};
+
+use crate::address::Place;
+use crate::hashes::{Prf, h, xor};
+
+/// The node over two nodes (section 4.1.4, algorithm 7).
+#[tactic(auto, unfolding(crate::specs::Tree::pair))]
+pub fn pair(prf: &Prf, place: Place, left: &[u8], right: &[u8]) -> [u8; 32]
+    requires left { length left.now ≡ 32 }
+    requires right { length right.now ≡ 32 }
+    ensures { result ≡ pair prf.now place left.now right.now }
+{
+    let left = xor(left, &prf.at(place, 1));
+    let right = xor(right, &prf.at(place, 2));
+    h(&prf.at(place, 0), &left, &right)
+}
+
+// One height of the L-tree over leaf `leaf`, in place: how many nodes are left at the front.
+fn pair_up(prf: &Prf, leaf: u32, height: u32, nodes: &mut [[u8; 32]]) -> usize
+    requires { length nodes.old ≤ 67 }
+    ensures value { take result nodes.new ≡ paired prf.now leaf height 0 nodes.old }
+    ensures count { result ≡ (length nodes.old + 1) / 2 }
+{
+    let count = nodes.len();
+    'pairs: for i in 0..count / 2 {
+        let place = Place::LTreePair {
+            leaf,
+            height,
+            index: i as u32,
+        };
+        let node = pair(prf, place, &nodes[2 * i], &nodes[2 * i + 1]);
+        nodes[i] = node;
+    }
+    if count % 2 == 1 {
+        let last = nodes[count - 1];
+        nodes[count / 2] = last;
+    }
+    count.div_ceil(2)
+}
+
+/// The top of the L-tree over the chain ends of leaf `leaf`, where an odd last node goes up as it
+/// is (section 4.1.5, algorithm 8).
+#[tactic(auto, unfolding(crate::specs::Tree::l_tree))]
+pub fn l_tree(prf: &Prf, leaf: u32, ends: [[u8; 32]; 67]) -> [u8; 32]
+    ensures { result ≡ l_tree prf.now leaf ends }
+{
+    let mut nodes = ends;
+    let mut count = 67;
+    'heights: for height in 0..7 {
+        count = pair_up(prf, leaf, height, &mut nodes[..count]);
+    }
+    nodes[0]
+}
+
+// The parent of node `i`, which stands at height `n`, beside its sibling: an odd node is the right
+// child.
+#[tactic(auto, unfolding(crate::specs::Tree::parent))]
+fn parent(prf: &Prf, n: u32, i: u32, value: &[u8; 32], sibling: &[u8]) -> [u8; 32]
+    requires { length sibling.now ≡ 32 }
+    ensures { result ≡ parent prf.now n i value.now sibling.now }
+{
+    let place = Place::TreePair {
+        height: n,
+        index: i / 2,
+    };
+    if i % 2 == 1 {
+        pair(prf, place, sibling, value)
+    } else {
+        pair(prf, place, value, sibling)
+    }
+}
+
+/// The root of a tree of height `H` over leaf `idx`, which has this value (section 4.1.10,
+/// algorithm 13).
+#[tactic(auto, using(crate::proofs::Paths::node_over_none, crate::proofs::Paths::node_over_more))]
+pub fn root<const H: usize>(prf: &Prf, idx: u32, path: &[u8], leaf: &[u8; 32]) -> [u8; 32]
+    requires few { H < 64 }
+    requires whole { length path.now ≡ 32 * H }
+    ensures { result ≡ node_over prf.now idx path.now leaf.now H }
+{
+    let mut value = *leaf;
+    let mut i = idx;
+    'heights: for n in 0..H {
+        value = parent(prf, n as u32, i, &value, &path[32 * n..32 * n + 32]);
+        i /= 2;
+    }
+    value
+}
+
+/// The law that the L-tree of 67 nodes is one node after seven heights.
+pub fn l_tree_ends_in_one()
+    ensures { (seed : List ℕ) → (leaf : ℕ) → (nodes : List (List ℕ)) → length nodes ≡ 67 → length (lifted seed leaf nodes 7) ≡ 1 }
+{}
