@@ -60,8 +60,8 @@ pub record Begins (patterns : List (List Part)) (words : List (List ℕ)) : Type
   pub more : List (List ℕ)
   pub fits : FitsOne patterns (words ++ more)
 
--- The word of this number, from 1, is the first with which no words that fit begin, with those before it. Where such words begin with all
--- the words, and the words themselves don't fit, it is the word that is missing behind them.
+-- The faulty word, by its number from 1: words that fit begin with all words before it, and none that fit begin with it as well. Where words
+-- that fit begin with all the words, and the words themselves don't fit, it is the one that is missing behind them.
 pub record IsFaultyWord (patterns : List (List Part)) (words : List (List ℕ)) (number : ℕ) : Type 0 where
   pub counted : 1 ≤ number
   pub begun : Begins patterns (take (number - 1) words)

@@ -1,6 +1,11 @@
 // The canonical form of a document.
-ghost use Rattle.std.specs.Prelude.{◌≤◌, length};
-ghost use Rattle.xades_cli.specs.Outcomes.{canon_outcome};
+ghost use Rattle.std.specs.Prelude.{◌≡◌, ◌≤◌, length, IfOk};
+ghost use Rattle.document_model.specs.Canonical.{octets_of};
+ghost use Rattle.document_model.specs.Documents.{document_of};
+ghost use Rattle.document_model.specs.NodeSets.{whole};
+ghost use Rattle.document_model.specs.Plain.{IsPlain};
+ghost use Rattle.doc_spans.specs.Shown.{IsShownOf};
+ghost use Rattle.xades_cli.specs.Outcomes.{canon_outcome, exclusive};
 ghost use Rattle.xades_cli.specs.Computed.{IsComputed};
 
 use crate::compute::Computed;
@@ -9,7 +14,7 @@ use canon_forms::{Form, Prefixes, to_vec};
 use doc_spans::{Doc, DocFault, Tree};
 use node_sets::NodeSet;
 use std::alloc::Global;
-use xa_io::{OutOfMemory, Steps};
+use xa_io::{Octs, OutOfMemory, Steps};
 
 // Marks the steps of reading the document.
 struct Reading;
@@ -20,17 +25,26 @@ pub fn canonicalize(alloc: Global, document: &[u8]) -> Computed
     ensures { IsComputed (canon_outcome document.now) result }
 {
     let mut steps: Steps<Reading> = Steps::new();
-    let tree = match Tree::read(alloc, document, &mut steps) {
-        Ok(tree) => tree,
-        Err(DocFault::OutOfMemory) => return Computed::Refused(Status::OutOfMemory),
-        Err(fault) => return Computed::Refused(Status::BadDocument(fault)),
-    };
+    match Tree::read(alloc, document, &mut steps) {
+        Ok(tree) => match exclusive_text(alloc, document, &tree) {
+            Ok(text) => Computed::Done(text),
+            Err(OutOfMemory) => Computed::Refused(Status::OutOfMemory),
+        },
+        Err(DocFault::OutOfMemory) => Computed::Refused(Status::OutOfMemory),
+        Err(fault) => Computed::Refused(Status::BadDocument(fault)),
+    }
+}
+
+// The exclusive canonical form of a document that was read.
+fn exclusive_text(alloc: Global, document: &[u8], tree: &Tree) -> Result<Octs, OutOfMemory>
+    requires whole { ∥ IsShownOf tree.now document.now ∥₁ }
+    requires plain { IsPlain document.now }
+    ensures { IfOk result (λ text. text ≡ octets_of exclusive whole (document_of document.now)) }
+{
+    let set = NodeSet::whole(Doc::of(document, tree));
     let form = Form::Exclusive {
         comments: false,
         prefixes: Prefixes::none(),
     };
-    match to_vec(alloc, &NodeSet::whole(Doc::of(document, &tree)), &form) {
-        Ok(text) => Computed::Done(text),
-        Err(OutOfMemory) => Computed::Refused(Status::OutOfMemory),
-    }
+    to_vec(alloc, &set, &form)
 }

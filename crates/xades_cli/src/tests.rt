@@ -6,7 +6,10 @@ use crate::run::run;
 use std::process::Abort;
 use std::test::Fail;
 use std::{env, fs};
-use xa_io::{FileShelf, Got, MemShelf, MemSink, Name, Octs, Shelf, ShelfFailed, Sink, StdSink};
+use xa_io::{
+    FileShelf, Got, MemShelf, MemSink, Name, Octs, Shelf, ShelfFailed, Sink, StdSink, SureShelf,
+    SureSink,
+};
 
 // A run, and what it must come to.
 #[derive(Clone, Copy)]
@@ -262,6 +265,18 @@ fn deep_documents(rt: HostRuntime) -> Result<(), Fail> {
     let deeper = nested(&rt, 257, false)?;
     let answer = answer_of(&rt, CANON, deeper.as_slice(), 1000, &NONE)?;
     compare(&rt, 1, &answer, 7, b"", b"xades: document fault 3 at 768\n");
+    Ok(())
+}
+
+#[test]
+fn sure_ones(rt: HostRuntime) -> Result<(), Fail> {
+    let words = words_of(&rt, CANON)?;
+    let mut shelf = SureShelf::new(rt.alloc(), 3);
+    shelf.add("a", b"<a/>")?;
+    let mut out = SureSink::new();
+    let mut err = SureSink::new();
+    let status = run(rt.alloc(), &words, &mut shelf, &mut out, &mut err);
+    assert_eq!(rt; status.number(), 0);
     Ok(())
 }
 
