@@ -179,10 +179,3 @@ row_front n cs pair rest h e = go (read_attributes n cs) refl h
           next = ap is_some r.next;
           some = some_left n xs f e;
         }
-
-pub row_end : (n : ℕ) (cs : List ℕ) → is_some (read_attributes n cs) ≡ true → pair_at cs ≡ None → unwrap_or (read_attributes n cs) [] ≡ []
-row_end n cs h e = go (read_attributes n cs) refl h
-  where
-    go : (o : Option (List Attribute)) → read_attributes n cs ≡ o → is_some o ≡ true → unwrap_or (read_attributes n cs) [] ≡ []
-    go None f h = absurd (false≢true h)
-    go (Some xs) f h = ap (λ o. unwrap_or o []) f ∙ row n cs xs None e f

@@ -4,10 +4,9 @@ use Rattle.std.specs.List.{list_all, starts_with}
 use Rattle.std.proofs.lemmas.Option.{none-some}
 use Rattle.std.proofs.lemmas.Bool.{true≢false, false≢true, eqb-true, and_parts, not-false}
 use Rattle.std.proofs.lemmas.List.{append-nil}
-use Rattle.document_model.specs.Characters.{span, pieces_at, is_white, begins_with, between, contains, is_empty}
+use Rattle.document_model.specs.Characters.{span, pieces_at, is_white, begins_with, between, contains}
 use Rattle.document_model.specs.Items.{with_references, referred, value_of, when}
 use Rattle.document_model.proofs.Joins.{some_same, bind_some}
-use Rattle.xml_items.specs.Found.{value_in}
 use Rattle.xml_items.specs.Values.{Begins}
 use Rattle.xml_items.proofs.AsciiTexts.{between_at}
 use Rattle.xml_items.proofs.Values.{normal, normal_plain, normal_other, normal_cr, normal_cr_lf, pieces_normal, pieces_behind, normal_to_end, referred_normal, span_again, first_stops, no_white_at, at_reference, at_end}
@@ -225,10 +224,6 @@ reference_begins c behind h amp = go (value_of (c ∷ behind)) refl h
     go : (o : Option (List ℕ)) → value_of (c ∷ behind) ≡ o → is_some o ≡ true → FirstReference c behind
     go None e h = absurd (false≢true h)
     go (Some v) e h = let r = reference_step c behind v amp e in record { stands = r.0; rest = r.1; refers = r.2; begins = r.3 }
-
-pub nothing_there : (text : List ℕ) → is_empty text ≡ true → value_in text ≡ []
-nothing_there [] e = refl
-nothing_there (c ∷ text) e = absurd (false≢true e)
 
 -- what the code finds of a reference
 
