@@ -1,4 +1,5 @@
 pub mod Rows
+pub mod Places
 pub mod LmsChains
 pub mod LmsClimb
 pub mod LmsPlaces

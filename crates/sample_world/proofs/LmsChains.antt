@@ -1,8 +1,8 @@
 -- A chain taken in two parts, and the candidate of a made one-time signature.
-use Rattle.std.proofs.Common.{◌≡◌, ℕ, zero, suc, ◌+◌, ◌-◌, ◌*◌, ◌/◌, ◌%◌, ◌^◌, ◌<◌, ◌≤◌, List, [], ◌++◌, length, refl, ap, sym, ◌∙◌, arith, add-zero, zero-add, add-suc, add_assoc}
+use Rattle.std.proofs.Common.{◌≡◌, ℕ, zero, suc, ◌+◌, ◌-◌, ◌<◌, ◌≤◌, List, ◌++◌, length, refl, ap, sym, ◌∙◌, arith, add-zero, add-suc, add_assoc}
 use Rattle.sha2.specs.Sha256.{sha256}
 use Rattle.sha2.proofs.Facts256.{length-sha256}
-use Rattle.lms_verify.specs.LmOts.{u16str, u32str, value_at, coef, step, chain, end, ends, digits, message_digest, candidate}
+use Rattle.lms_verify.specs.LmOts.{u16str, u32str, coef, step, chain, end, ends, digits, message_digest, candidate}
 use Rattle.sample_world.specs.Joined.{joined}
 use Rattle.sample_world.specs.LmsKeys.{secret, one_time_key, ots_values}
 use Rattle.sample_world.proofs.Rows.{value_at-joined, joined_same}

@@ -1,18 +1,18 @@
 -- The verdict on a made signature.
-use Rattle.std.proofs.Common.{◌≡◌, ℕ, zero, suc, ◌+◌, ◌-◌, ◌*◌, ◌/◌, ◌%◌, ◌^◌, ◌<◌, ◌≤◌, List, [], ◌∷◌, ◌++◌, length, take, drop, true, ltb, refl, ap, sym, ◌∙◌, arith, length-append, append_assoc, lit<}
+use Rattle.std.proofs.Common.{◌≡◌, ℕ, ◌+◌, ◌/◌, ◌^◌, ◌<◌, List, ◌++◌, length, true, ltb, refl, sym, ◌∙◌, arith, length-append, append_assoc, lit<}
 use Rattle.std.proofs.lemmas.Bool.Decides.{nat_tests}
-use Rattle.std.specs.Str.{bytes_eq}
 use Rattle.std.proofs.lemmas.Slice.Eq.{bytes_eq-Decides}
 use Rattle.lms_verify.specs.declared.Verdict.TheVariants.{Good}
 use Rattle.lms_verify.specs.LmOts.{u32str, candidate}
-use Rattle.lms_verify.specs.Lms.{part, u32_at, lms_type, ots_type, id_of, root_of, leaf, node_over, chains_of, height_of, size_under, is_known, begins_under, root_under}
+use Rattle.lms_verify.specs.Lms.{part, u32_at, lms_type, ots_type, id_of, root_of, leaf, node_over, chains_of, height_of, is_known, begins_under, root_under}
 use Rattle.lms_verify.specs.Hss.{is_signature, judge, roots, is_key, is_signature_of, verdict}
 use Rattle.sample_world.specs.Joined.{sibling}
-use Rattle.sample_world.specs.LmsKeys.{one_time_key, node, lms_key, secret, ots_values, path, lms_signature}
+use Rattle.sample_world.specs.LmsKeys.{node, lms_key, secret, ots_values, path, lms_signature}
 use Rattle.sample_world.proofs.Rows.{length-joined}
 use Rattle.sample_world.proofs.LmsChains.{candidate_is, length-chain, length-secret}
 use Rattle.sample_world.proofs.LmsClimb.{climbs, length-node}
-use Rattle.sample_world.proofs.LmsPlaces.{part_is, last_part_is, u32_front, u32_after}
+use Rattle.sample_world.proofs.Places.{part_is, last_part_is}
+use Rattle.sample_world.proofs.LmsPlaces.{u32_front, u32_after}
 
 length-values : (seed id : List ℕ) (q : ℕ) (c message : List ℕ) → length (ots_values seed id q c message) ≡ 1088
 unfolding ots_values

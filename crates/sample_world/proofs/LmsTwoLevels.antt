@@ -1,15 +1,16 @@
 -- The verdict on a made signature of two levels.
-use Rattle.std.proofs.Common.{◌≡◌, ℕ, zero, suc, ◌+◌, ◌-◌, ◌*◌, ◌^◌, ◌<◌, ◌≤◌, List, [], ◌∷◌, ◌++◌, length, take, drop, get_or, true, leb, refl, ap, sym, ◌∙◌, arith, length-append, length-drop, append_assoc, lit<}
+use Rattle.std.proofs.Common.{◌≡◌, ℕ, suc, ◌+◌, ◌<◌, ◌≤◌, List, ◌++◌, length, drop, true, leb, refl, sym, ◌∙◌, arith, length-append, length-drop, append_assoc, lit<}
 use Rattle.std.proofs.lemmas.Bool.Decides.{nat_tests}
 use Rattle.std.proofs.lemmas.List.{drop_at, drop-append-le, take-append-le, get_or_append_left}
 use Rattle.lms_verify.specs.declared.Verdict.TheVariants.{Good}
 use Rattle.lms_verify.specs.LmOts.{u32str, candidate}
-use Rattle.lms_verify.specs.Lms.{part, u32_at, lms_type, ots_type, id_of, root_of, leaf, node_over, chains_of, height_of, size_under, is_known, begins_under, root_under}
-use Rattle.lms_verify.specs.Hss.{next_key, after_key, is_signature, judge, roots, is_key, is_signature_of, verdict}
+use Rattle.lms_verify.specs.Lms.{part, u32_at, root_of, leaf, node_over, size_under, is_known, begins_under, root_under}
+use Rattle.lms_verify.specs.Hss.{next_key, after_key, is_signature, roots, is_key, is_signature_of, verdict}
 use Rattle.sample_world.specs.LmsKeys.{node, lms_key, ots_values, path, lms_signature, hss_key, two_signatures}
 use Rattle.sample_world.proofs.LmsChains.{candidate_is}
 use Rattle.sample_world.proofs.LmsClimb.{climbs}
-use Rattle.sample_world.proofs.LmsPlaces.{part_is, u32_front}
+use Rattle.sample_world.proofs.Places.{part_is}
+use Rattle.sample_world.proofs.LmsPlaces.{u32_front}
 use Rattle.sample_world.proofs.LmsHolds.{IsKey, IsSignature, chains_is, height_is, known_is, root_under_is, below_32, signature_is, same_root, signature_made, key_made}
 
 u32_at_front : (a b : List ℕ) (i : ℕ) → i + 4 ≤ length a → u32_at (a ++ b) i ≡ u32_at a i

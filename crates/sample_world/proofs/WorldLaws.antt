@@ -1,5 +1,5 @@
 -- What a world's signatures are, by the verdict.
-use Rattle.std.proofs.Common.{◌≡◌, ℕ, ◌+◌, ◌<◌, List, ◌++◌, length, take, arith, length-take, refl, ◌∙◌}
+use Rattle.std.proofs.Common.{◌≡◌, ℕ, ◌<◌, List, ◌++◌, length, arith, length-take, refl, ◌∙◌}
 use Rattle.std.specs.Prelude.{slice_index, codes}
 use Rattle.sha2.specs.Sha256.{sha256}
 use Rattle.sha2.proofs.Facts256.{length-sha256}
@@ -7,7 +7,7 @@ use Rattle.lms_verify.specs.declared.Verdict.TheVariants.{Good}
 use Rattle.lms_verify.specs.LmOts.{u32str}
 use Rattle.lms_verify.specs.Lms.{u32_at}
 use Rattle.lms_verify.specs.Hss.{verdict}
-use Rattle.sample_world.specs.LmsKeys.{lms_key, lms_signature, hss_signature}
+use Rattle.sample_world.specs.LmsKeys.{lms_signature}
 use Rattle.xmss_verify.specs.declared.Verdict.TheVariants as xmss_good
 use Rattle.xmss_verify.specs.Xmss as xmss
 use Rattle.sample_world.specs.XmssKeys.{signature}

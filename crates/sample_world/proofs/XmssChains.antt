@@ -1,5 +1,5 @@
 -- A chain taken in two parts, and the ends of a made one-time signature.
-use Rattle.std.proofs.Common.{◌≡◌, ℕ, zero, suc, ◌+◌, ◌-◌, ◌*◌, ◌/◌, ◌%◌, ◌^◌, ◌<◌, ◌≤◌, List, [], ◌∷◌, ◌++◌, length, refl, ap, sym, ◌∙◌, arith, add-zero, add-suc, add_assoc}
+use Rattle.std.proofs.Common.{◌≡◌, ℕ, zero, suc, ◌+◌, ◌-◌, ◌<◌, ◌≤◌, List, length, refl, sym, ◌∙◌, arith, add-zero, add-suc, add_assoc}
 use Rattle.sha2.proofs.Facts256.{length-sha256}
 use Rattle.xmss_verify.specs.Wots.{value_at, digit, step, keyed, chain, ends, digits}
 use Rattle.sample_world.specs.Joined.{joined, listed}

@@ -1,5 +1,5 @@
 -- The verdict on a made signature.
-use Rattle.std.proofs.Common.{◌≡◌, ℕ, zero, suc, ◌+◌, ◌-◌, ◌*◌, ◌/◌, ◌%◌, ◌^◌, ◌<◌, ◌≤◌, List, [], ◌∷◌, ◌++◌, length, take, drop, true, ltb, refl, ap, sym, ◌∙◌, arith, length-append, append_assoc, lit<}
+use Rattle.std.proofs.Common.{◌≡◌, ℕ, ◌/◌, ◌^◌, ◌<◌, List, ◌++◌, length, true, ltb, refl, ap, sym, ◌∙◌, arith, length-append, append_assoc, lit<}
 use Rattle.std.proofs.lemmas.Bool.Decides.{nat_tests}
 use Rattle.std.proofs.lemmas.Slice.Eq.{bytes_eq-Decides}
 use Rattle.xmss_verify.specs.declared.Verdict.TheVariants.{Good}
@@ -7,12 +7,13 @@ use Rattle.xmss_verify.specs.Address.{word}
 use Rattle.xmss_verify.specs.Wots.{chain, digit, digits, ends}
 use Rattle.xmss_verify.specs.Tree.{l_tree, node_over}
 use Rattle.xmss_verify.specs.Xmss.{part, u32_at, root_of, seed_of, is_known, is_signature, message_digest, root_from, root_under, judge, verdict_under, verdict}
-use Rattle.sample_world.specs.Joined.{listed, joined, sibling}
+use Rattle.sample_world.specs.Joined.{sibling}
 use Rattle.sample_world.specs.XmssKeys.{leaf, node, key, ots_values, path, signature}
 use Rattle.sample_world.proofs.Rows.{length-joined}
 use Rattle.sample_world.proofs.XmssChains.{ends_are, length-chain}
 use Rattle.sample_world.proofs.XmssClimb.{climbs, length-node}
-use Rattle.sample_world.proofs.XmssPlaces.{part_is, last_part_is, u32_front}
+use Rattle.sample_world.proofs.Places.{part_is, last_part_is}
+use Rattle.sample_world.proofs.XmssPlaces.{u32_front}
 
 record IsKey (k root seed : List ℕ) : Type 0 where
   set : u32_at k 0 ≡ 1

@@ -1,8 +1,6 @@
 -- How the XMSS key's tree grows.
 use Rattle.std.proofs.Common.{◌≡◌, ℕ, zero, suc, ◌+◌, ◌-◌, ◌*◌, ◌/◌, ◌%◌, ◌^◌, ◌<◌, ◌≤◌, List, inl, inr, refl, arith}
 use Rattle.std.proofs.lemmas.Bool.{cases_lt}
-use Rattle.std.proofs.lemmas.Nat.{pow_pos}
-use Rattle.std.proofs.Math.Nat.{pow-suc}
 use Rattle.xmss_verify.specs.declared.address.Place.TheVariants.{TreePair}
 use Rattle.xmss_verify.specs.Tree.{pair, l_tree}
 use Rattle.sample_world.specs.Joined.{listed, sibling}

@@ -1,6 +1,6 @@
 -- LMS keys and signatures made from a seed, of LMS type 5 and LM-OTS type 4 (RFC 8554, sections 4.3, 4.5, 5.3, 5.4,
 -- Appendix A), and HSS keys and signatures of one and of two levels (section 6).
-use Rattle.std.specs.Prelude.{◌≡◌, ℕ, zero, suc, ◌+◌, ◌-◌, ◌*◌, ◌/◌, ◌%◌, ◌^◌, ◌<◌, List, [], ◌∷◌, ◌++◌, length, if◌then◌else◌, ◌==◌}
+use Rattle.std.specs.Prelude.{ℕ, zero, suc, ◌+◌, ◌-◌, ◌*◌, ◌/◌, ◌^◌, List, [], ◌∷◌, ◌++◌}
 use Rattle.sha2.specs.Sha256.{sha256}
 use Rattle.lms_verify.specs.LmOts.{u16str, u32str, chain, coef, digits, message_digest}
 use Rattle.lms_verify.specs.Lms.{leaf, inner}

@@ -1,5 +1,5 @@
 -- XMSS keys and signatures of set 1 made from secrets (RFC 8391, sections 3.1.4, 3.1.5, 4.1.6 to 4.1.9).
-use Rattle.std.specs.Prelude.{◌≡◌, ℕ, zero, suc, ◌+◌, ◌-◌, ◌*◌, ◌/◌, ◌%◌, ◌^◌, ◌<◌, List, [], ◌∷◌, ◌++◌, length, if◌then◌else◌, ◌==◌}
+use Rattle.std.specs.Prelude.{ℕ, zero, suc, ◌+◌, ◌*◌, ◌/◌, ◌^◌, List, ◌++◌}
 use Rattle.xmss_verify.specs.declared.address.Place.TheVariants.{TreePair}
 use Rattle.xmss_verify.specs.Address.{word}
 use Rattle.xmss_verify.specs.Wots.{chain, digit, digits}

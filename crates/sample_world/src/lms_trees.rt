@@ -175,6 +175,13 @@ impl LmsTree {
     }
 }
 
+/// Which signature is made: the key, and the number of its earlier ones.
+#[derive(Clone, Copy, Debug)]
+pub struct Turn {
+    pub key: u32,
+    pub q: u32,
+}
+
 /// The keys that were made so far. They make no difference to what is given, but in time.
 #[derive(Drop)]
 pub struct LmsTrees {
@@ -223,24 +230,23 @@ impl LmsTrees {
         self.trees[place].put_key(out)
     }
 
-    /// Appends signature `by.1` of a message by LMS key `by.0` of a world with this secret.
+    /// Appends the signature of a message that is a key's turn in a world with this secret.
     pub fn put_signature(
         &mut self,
         alloc: Global,
         secret: &[u8; 32],
-        by: (u32, u32),
+        turn: Turn,
         message: &[u8],
         out: &mut Octs,
     ) -> Result<(), OutOfMemory>
-        requires { by.1 < 32 }
-        ensures { OnOk result (out.new ≡ out.old ++ lms_signature (seed_of secret.now by.0)
-            (id_of secret.now by.0) by.1 (randomizer secret.now by.0 by.1) message.now) }
+        requires { turn.q < 32 }
+        ensures { OnOk result (out.new ≡ out.old ++ lms_signature (seed_of secret.now turn.key)
+            (id_of secret.now turn.key) turn.q (randomizer secret.now turn.key turn.q) message.now) }
     {
-        let (key, q) = by;
-        let Ok(place) = self.place(alloc, secret, key) else {
+        let Ok(place) = self.place(alloc, secret, turn.key) else {
             return Err(OutOfMemory);
         };
-        let c = randomizer(secret, key, q);
-        self.trees[place].put_signature(out, q, &c, message)
+        let c = randomizer(secret, turn.key, turn.q);
+        self.trees[place].put_signature(out, turn.q, &c, message)
     }
 }

@@ -9,7 +9,7 @@ ghost use Rattle.sample_world.specs.World.{Ledger, secret_of, id_of, seed_of, ke
 ghost use Rattle.xmss_verify.specs.Xmss as xmss;
 ghost use Rattle.xmss_verify.specs.declared.Verdict.TheVariants as xmss_good;
 
-use crate::lms_trees::LmsTrees;
+use crate::lms_trees::{LmsTrees, Turn};
 use crate::secrets::secret_of;
 use crate::xmss_trees::XmssTrees;
 use std::alloc::{AllocError, Global};
@@ -116,13 +116,11 @@ impl World {
         let mut out = Octs::new(self.alloc);
         out.push_all(&[0, 0, 0, 0])?;
         let trees = &mut self.lms_trees;
-        trees.put_signature(
-            self.alloc,
-            &self.secret,
-            (key, u32::from(q)),
-            message,
-            &mut out,
-        )?;
+        let turn = Turn {
+            key,
+            q: u32::from(q),
+        };
+        trees.put_signature(self.alloc, &self.secret, turn, message, &mut out)?;
         self.used[key as usize] = q + 1;
         Ok(out)
     }
@@ -152,21 +150,17 @@ impl World {
         let signed = key.as_slice();
         let mut out = Octs::new(self.alloc);
         out.push_all(&[0, 0, 0, 1])?;
-        trees.put_signature(
-            self.alloc,
-            &self.secret,
-            (upper, u32::from(q)),
-            signed,
-            &mut out,
-        )?;
+        let turn = Turn {
+            key: upper,
+            q: u32::from(q),
+        };
+        trees.put_signature(self.alloc, &self.secret, turn, signed, &mut out)?;
         out.push_all(signed)?;
-        trees.put_signature(
-            self.alloc,
-            &self.secret,
-            (lower, u32::from(p)),
-            message,
-            &mut out,
-        )?;
+        let turn = Turn {
+            key: lower,
+            q: u32::from(p),
+        };
+        trees.put_signature(self.alloc, &self.secret, turn, message, &mut out)?;
         self.used[upper as usize] = q + 1;
         self.used[lower as usize] = p + 1;
         Ok(out)

@@ -1,4 +1,4 @@
-use Rattle.std.proofs.Common.{◌≡◌, ◌-◌, ◌≤◌, length, ap, ◌∙◌, arith}
+use Rattle.std.proofs.Common.{◌≡◌, ◌-◌, length, ap, ◌∙◌, arith}
 use Rattle.sample_world.specs.Joined.{listed}
 use Rattle.sample_world.specs.LmsKeys.{leaf_of}
 use Rattle.sample_world.proofs.Trees.{doubled, length-listed, get_or-listed, node_leaf}

@@ -1,4 +1,4 @@
-use Rattle.std.proofs.Common.{◌≡◌, ◌+◌, ◌∙◌, sym, rules}
+use Rattle.std.proofs.Common.{◌≡◌, ◌∙◌, sym, rules}
 use Rattle.sample_world.specs.LmsKeys.{leaf_of}
 use Rattle.sample_world.proofs.Trees.{listed_none, listed_more, leaf_of_is}
 use Rattle.sample_world.proofs.lms_trees.LmsTree.new.Goals as goal

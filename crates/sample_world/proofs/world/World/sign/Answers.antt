@@ -1,4 +1,4 @@
-use Rattle.std.proofs.Common.{◌≡◌, ◌<◌, arith, rules}
+use Rattle.std.proofs.Common.{◌≡◌, ◌<◌, rules}
 use Rattle.std.specs.Prelude.{slice_index}
 use Rattle.sample_world.specs.World.{signature_of}
 use Rattle.sample_world.proofs.WorldLaws.{signature_good, signature_number}

@@ -1,9 +1,9 @@
-use Rattle.std.proofs.Common.{◌≡◌, ◌<◌, ℕ, List, length, ap, ◌∙◌, arith}
+use Rattle.std.proofs.Common.{◌≡◌, length, ap, ◌∙◌, arith}
 use Rattle.sample_world.specs.Joined.{listed}
 use Rattle.sample_world.specs.World.{xmss_secret, xmss_seed}
 use Rattle.sample_world.specs.XmssKeys.{leaf}
 use Rattle.sample_world.proofs.Trees.{doubled, length-listed, get_or-listed}
-use Rattle.sample_world.proofs.XmssTrees.{node_leaf, node_inner}
+use Rattle.sample_world.proofs.XmssTrees.{node_leaf}
 use Rattle.sample_world.proofs.xmss_trees.XmssTree.+node.Goals as goal
 
 pub index-requires : goal.index-requires

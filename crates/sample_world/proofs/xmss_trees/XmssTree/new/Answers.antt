@@ -1,4 +1,4 @@
-use Rattle.std.proofs.Common.{◌≡◌, ◌+◌, ◌∙◌, sym, rules}
+use Rattle.std.proofs.Common.{◌≡◌, ◌∙◌, sym, rules}
 use Rattle.sample_world.specs.World.{xmss_secret}
 use Rattle.sample_world.specs.XmssKeys.{leaf}
 use Rattle.sample_world.proofs.Trees.{listed_none, listed_more}

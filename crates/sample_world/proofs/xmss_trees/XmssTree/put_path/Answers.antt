@@ -1,4 +1,4 @@
-use Rattle.std.proofs.Common.{◌≡◌, ◌+◌, ◌/◌, ◌^◌, ◌<◌, append_assoc, refl, arith, rules}
+use Rattle.std.proofs.Common.{append_assoc, refl, arith, rules}
 use Rattle.std.proofs.lemmas.List.{append-nil}
 use Rattle.sample_world.proofs.Trees.{joined_none, joined_more, halved}
 use Rattle.sample_world.proofs.XmssTrees.{beside_in_tree}
