@@ -4,4 +4,5 @@ pub mod Walks
 pub mod Steps
 pub mod ElementLaws
 pub mod FitsLaws
+pub mod Stands
 pub mod Shift

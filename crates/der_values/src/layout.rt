@@ -34,7 +34,9 @@ pub enum Layout<'a> {
 #[tactic(auto, unfolding(crate::specs::Layout::next))]
 fn next_element<'a>(content: &Content<'a>, offset: usize) -> Result<Tlv<'a>, DerFault>
     requires { offset ≤ length content.now.bytes.now }
-    ensures value { MatchResult result (λ tlv. next (content_view content.now) offset ≡ Ok (view tlv)) (λ fault. next (content_view content.now) offset ≡ Err fault.at) }
+    ensures value { MatchResult result
+        (λ tlv. next (content_view content.now) offset ≡ Ok (view tlv))
+        (λ fault. next (content_view content.now) offset ≡ Err fault.at) }
     ensures within { IfOk result (λ tlv. offset + length tlv.whole.now ≤ length content.now.bytes.now) }
     ensures inside { IfOk result (λ tlv. length tlv.content.now < length tlv.whole.now) }
     ensures place { IfErr result (λ fault. fault.at < content.now.begin + length content.now.bytes.now) }
@@ -58,7 +60,9 @@ pub(crate) fn take<'a>(
     offset: usize,
 ) -> Result<Tlv<'a>, DerFault>
     requires { offset ≤ length content.now.bytes.now }
-    ensures value { MatchResult result (λ tlv. take_one tag rule (content_view content.now) offset ≡ Ok (view tlv)) (λ fault. take_one tag rule (content_view content.now) offset ≡ Err fault.at) }
+    ensures value { MatchResult result
+        (λ tlv. take_one tag rule (content_view content.now) offset ≡ Ok (view tlv))
+        (λ fault. take_one tag rule (content_view content.now) offset ≡ Err fault.at) }
     ensures within { IfOk result (λ tlv. offset + length tlv.whole.now ≤ length content.now.bytes.now) }
     ensures inside { IfOk result (λ tlv. length tlv.content.now < length tlv.whole.now) }
     ensures place { IfErr result (λ fault. fault.at < content.now.begin + length content.now.bytes.now) }
@@ -76,7 +80,10 @@ pub(crate) fn take<'a>(
 #[tactic(auto, unfolding(crate::specs::Layout::all_of))]
 pub(crate) fn no_more(content: &Content<'_>, end: usize) -> Result<(), DerFault>
     requires { end ≤ length content.now.bytes.now }
-    ensures value { MatchResult result (λ full. (all_of (content_view content.now) end ≡ Ok end) × (end ≡ length content.now.bytes.now)) (λ fault. all_of (content_view content.now) end ≡ Err fault.at) }
+    ensures value { MatchResult result
+        (λ full. (all_of (content_view content.now) end ≡ Ok end)
+        × (end ≡ length content.now.bytes.now))
+        (λ fault. all_of (content_view content.now) end ≡ Err fault.at) }
     ensures place { IfErr result (λ fault. fault.at < content.now.begin + length content.now.bytes.now) }
 {
     if end < content.bytes.len() {
@@ -93,7 +100,9 @@ pub(crate) fn no_more(content: &Content<'_>, end: usize) -> Result<(), DerFault>
 #[tactic(auto, using(crate::proofs::Walks::again, crate::proofs::Walks::again_fails, crate::proofs::Walks::again_ends, crate::proofs::Walks::again_no_more), unfolding(crate::specs::Layout::read, crate::specs::Layout::all_of))]
 fn judge_all(one: &Layout<'_>, content: &Content<'_>, offset: usize) -> Result<usize, DerFault>
     requires { offset ≤ length content.now.bytes.now }
-    ensures value { MatchResult result (λ end. read (many (meaning one.now)) (content_view content.now) offset ≡ Ok end) (λ fault. read (many (meaning one.now)) (content_view content.now) offset ≡ Err fault.at) }
+    ensures value { MatchResult result
+        (λ end. read (many (meaning one.now)) (content_view content.now) offset ≡ Ok end)
+        (λ fault. read (many (meaning one.now)) (content_view content.now) offset ≡ Err fault.at) }
     ensures within { IfOk result (λ end. end ≤ length content.now.bytes.now) }
     ensures place { IfErr result (λ fault. fault.at < content.now.begin + length content.now.bytes.now) }
 {
@@ -113,7 +122,9 @@ fn judge_all(one: &Layout<'_>, content: &Content<'_>, offset: usize) -> Result<u
 #[tactic(auto, unfolding(crate::specs::Layout::read))]
 fn judge(layout: &Layout<'_>, content: &Content<'_>, offset: usize) -> Result<usize, DerFault>
     requires { offset ≤ length content.now.bytes.now }
-    ensures value { MatchResult result (λ end. read (meaning layout.now) (content_view content.now) offset ≡ Ok end) (λ fault. read (meaning layout.now) (content_view content.now) offset ≡ Err fault.at) }
+    ensures value { MatchResult result
+        (λ end. read (meaning layout.now) (content_view content.now) offset ≡ Ok end)
+        (λ fault. read (meaning layout.now) (content_view content.now) offset ≡ Err fault.at) }
     ensures within { IfOk result (λ end. end ≤ length content.now.bytes.now) }
     ensures place { IfErr result (λ fault. fault.at < content.now.begin + length content.now.bytes.now) }
 {
@@ -152,7 +163,9 @@ fn judge(layout: &Layout<'_>, content: &Content<'_>, offset: usize) -> Result<us
 
 #[tactic(auto, unfolding(crate::specs::Layout::read_object))]
 fn judge_object(layout: &Layout<'_>, bytes: &[u8]) -> Result<(), DerFault>
-    ensures value { MatchResult result (λ full. read_object (meaning layout.now) bytes.now ≡ Ok (length bytes.now)) (λ fault. read_object (meaning layout.now) bytes.now ≡ Err fault.at) }
+    ensures value { MatchResult result
+        (λ full. read_object (meaning layout.now) bytes.now ≡ Ok (length bytes.now))
+        (λ fault. read_object (meaning layout.now) bytes.now ≡ Err fault.at) }
     ensures place { IfErr result (λ fault. 0 < length bytes.now → fault.at < length bytes.now) }
 {
     if bytes.is_empty() {
@@ -177,7 +190,9 @@ pub fn check(layout: &Layout<'_>, bytes: &[u8]) -> Result<(), DerFault>
     ensures exact { IsOk result ↔ IsObject (meaning layout.now) bytes.now }
 
     // Which element is the first bad one.
-    ensures value { MatchResult result (λ full. read_object (meaning layout.now) bytes.now ≡ Ok (length bytes.now)) (λ fault. read_object (meaning layout.now) bytes.now ≡ Err fault.at) }
+    ensures value { MatchResult result
+        (λ full. read_object (meaning layout.now) bytes.now ≡ Ok (length bytes.now))
+        (λ fault. read_object (meaning layout.now) bytes.now ≡ Err fault.at) }
     ensures place { IfErr result (λ fault. 0 < length bytes.now → fault.at < length bytes.now) }
 {
     judge_object(layout, bytes)

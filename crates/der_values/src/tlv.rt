@@ -26,7 +26,9 @@ pub struct Tlv<'a> {
 #[tactic(auto, unfolding(crate::specs::Element::element_at))]
 pub fn read_tlv<'a>(bytes: &'a [u8], at: usize) -> Result<Tlv<'a>, DerFault>
     requires { at ≤ length bytes.now }
-    ensures value { MatchResult result (λ tlv. element_at (drop at bytes.now) ≡ Some (view tlv)) (λ fault. (element_at (drop at bytes.now) ≡ None) × (fault.at ≡ at)) }
+    ensures value { MatchResult result
+        (λ tlv. element_at (drop at bytes.now) ≡ Some (view tlv))
+        (λ fault. (element_at (drop at bytes.now) ≡ None) × (fault.at ≡ at)) }
     ensures within { IfOk result (λ tlv. at + length tlv.whole.now ≤ length bytes.now) }
     ensures inside { IfOk result (λ tlv. length tlv.content.now < length tlv.whole.now) }
     ensures not_empty { IfOk result (λ tlv. 1 ≤ length tlv.whole.now) }

@@ -1,6 +1,6 @@
 -- What a certificate says, by the places of its parts: RFC 5280, 4.1 and 4.2.
 -- tbsCertificate has at 0 the version, 1 the serial, 2 the algorithm, 3 the issuer, 4 the validity, 5 the subject, 6 the key.
-use Rattle.std.specs.Prelude.{ℕ, ℤ, Bool, true, false, List, [], ◌∷◌, Option, Some, None, is_none, ◌==◌, bit_and, if◌then◌else◌}
+use Rattle.std.specs.Prelude.{◌≡◌, ℕ, ℤ, Bool, true, false, List, [], ◌∷◌, Option, Some, None, is_none, ◌==◌, bit_and, if◌then◌else◌}
 use Rattle.std.specs.List.{list_any}
 use Rattle.std.specs.Str.{bytes_eq}
 use Rattle.der_values.specs.Element.{Element}
@@ -8,7 +8,7 @@ use Rattle.der_values.specs.Elements.{elements, tagged, first_named}
 use Rattle.der_values.specs.Kinds.{count_of}
 use Rattle.der_values.specs.Rules.{nth, content_of, bytes_of}
 use Rattle.der_values.specs.declared.oids.KnownOid.TheVariants as oids
-use Rattle.x509_certs.specs.Signed.{part, piece, time_or_0, algorithm_name, bit_bytes, fields}
+use Rattle.x509_certs.specs.Signed.{part, piece, time_of, time_or_0, algorithm_name, bit_bytes, fields}
 use Rattle.x509_certs.specs.Extensions.{is_true, is_strange, value_of}
 
 abbrev pub serial : List ℕ → List ℕ
@@ -23,6 +23,11 @@ not_before whole = time_or_0 (nth 0 (part 4 (fields whole)))
 
 abbrev pub not_after : List ℕ → ℤ
 not_after whole = time_or_0 (nth 1 (part 4 (fields whole)))
+
+-- Both are times that stand there.
+abbrev pub HasTimes : List ℕ → Type 0
+HasTimes whole =
+    (Some (not_before whole) ≡ time_of (nth 0 (part 4 (fields whole)))) × (Some (not_after whole) ≡ time_of (nth 1 (part 4 (fields whole))))
 
 -- The Name of the subject, all its bytes.
 abbrev pub subject : List ℕ → List ℕ

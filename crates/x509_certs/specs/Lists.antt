@@ -1,6 +1,6 @@
 -- What a CRL says, by the places of its parts: RFC 5280, 5.1 to 5.3.
 -- tbsCertList has at 0 the version, 1 the algorithm, 2 the issuer, 3 thisUpdate, then an optional nextUpdate, optional entries, optional [0].
-use Rattle.std.specs.Prelude.{ℕ, ℤ, ◌&&◌, not, Bool, false, List, [], ◌∷◌, Option, Some, None, ◌==◌, int_lt, flat_map, if◌then◌else◌}
+use Rattle.std.specs.Prelude.{◌≡◌, ℕ, ℤ, ◌&&◌, not, Bool, false, List, [], ◌∷◌, Option, Some, None, ◌==◌, int_lt, flat_map, if◌then◌else◌}
 use Rattle.std.specs.List.{list_any}
 use Rattle.std.specs.Str.{bytes_eq}
 use Rattle.der_values.specs.Element.{Element}
@@ -15,6 +15,10 @@ list_issuer whole = piece 2 (fields whole)
 
 abbrev pub this_update : List ℕ → ℤ
 this_update whole = time_or_0 (nth 3 (fields whole))
+
+-- It is a time that stands there.
+abbrev pub HasUpdate : List ℕ → Type 0
+HasUpdate whole = Some (this_update whole) ≡ time_of (nth 3 (fields whole))
 
 -- nextUpdate, if a time stands there.
 abbrev pub next_update : List ℕ → Option ℤ

@@ -26,7 +26,10 @@ pub struct Certificate<'a> {
 pub fn read_certificate<'a>(bytes: &'a [u8]) -> Result<Certificate<'a>, CertFault>
     ensures exact { IsOk result ↔ IsObject layout.certificate bytes.now }
     ensures ok { IfOk result (λ c. certificate_bytes c ≡ bytes.now) }
-    ensures judged { MatchResult result (λ c. read_object layout.certificate bytes.now ≡ Ok (length bytes.now)) (λ fault. read_object layout.certificate bytes.now ≡ Err fault.at) }
+    ensures times { IfOk result (λ c. says.HasTimes (certificate_bytes c)) }
+    ensures judged { MatchResult result
+        (λ c. read_object layout.certificate bytes.now ≡ Ok (length bytes.now))
+        (λ fault. read_object layout.certificate bytes.now ≡ Err fault.at) }
     ensures place { IfErr result (λ fault. 0 < length bytes.now → fault.at < length bytes.now) }
 {
     match check(&CERTIFICATE, bytes) {

@@ -29,7 +29,10 @@ pub struct Crl<'a> {
 pub fn read_crl<'a>(bytes: &'a [u8]) -> Result<Crl<'a>, CertFault>
     ensures exact { IsOk result ↔ IsObject layout.revocation_list bytes.now }
     ensures ok { IfOk result (λ c. list_bytes c ≡ bytes.now) }
-    ensures judged { MatchResult result (λ c. read_object layout.revocation_list bytes.now ≡ Ok (length bytes.now)) (λ fault. read_object layout.revocation_list bytes.now ≡ Err fault.at) }
+    ensures times { IfOk result (λ c. says.HasUpdate (list_bytes c)) }
+    ensures judged { MatchResult result
+        (λ c. read_object layout.revocation_list bytes.now ≡ Ok (length bytes.now))
+        (λ fault. read_object layout.revocation_list bytes.now ≡ Err fault.at) }
     ensures place { IfErr result (λ fault. 0 < length bytes.now → fault.at < length bytes.now) }
 {
     match check(&REVOCATION_LIST, bytes) {

@@ -28,7 +28,11 @@ fn has_version_3(bytes: &[u8]) -> bool
 }
 
 fn either<'a>(bytes: &'a [u8]) -> Result<Part<'a>, CertFault>
-    ensures value { MatchResult result (λ p. (read_object (layout_of bytes.now) bytes.now ≡ Ok (length bytes.now)) × (part_bytes p ≡ bytes.now) × (is_certificate p ≡ begins_with_0 bytes.now)) (λ fault. read_object (layout_of bytes.now) bytes.now ≡ Err fault.at) }
+    ensures value { MatchResult result
+        (λ p. (read_object (layout_of bytes.now) bytes.now ≡ Ok (length bytes.now))
+        × (part_bytes p ≡ bytes.now)
+        × (is_certificate p ≡ begins_with_0 bytes.now))
+        (λ fault. read_object (layout_of bytes.now) bytes.now ≡ Err fault.at) }
     ensures exact { IsOk result ↔ IsObject (layout_of bytes.now) bytes.now }
     ensures place { IfErr result (λ fault. 0 < length bytes.now → fault.at < length bytes.now) }
 {
@@ -46,7 +50,11 @@ fn either<'a>(bytes: &'a [u8]) -> Result<Part<'a>, CertFault>
 /// An object whose signed part begins with `[0]` is taken for a certificate, any other for a CRL.
 pub fn split_data<'a>(bytes: &'a [u8], at: usize) -> Result<Part<'a>, CertFault>
     requires { at < length bytes.now }
-    ensures value { MatchResult result (λ p. (object_in at (element_at (drop at bytes.now)) ≡ Ok (length (part_bytes p))) × (option_map (λ e. e.whole) (element_at (drop at bytes.now)) ≡ Some (part_bytes p)) × (is_certificate p ≡ begins_with_0 (part_bytes p))) (λ fault. object_in at (element_at (drop at bytes.now)) ≡ Err fault.at) }
+    ensures value { MatchResult result
+        (λ p. (object_in at (element_at (drop at bytes.now)) ≡ Ok (length (part_bytes p)))
+        × (option_map (λ e. e.whole) (element_at (drop at bytes.now)) ≡ Some (part_bytes p))
+        × (is_certificate p ≡ begins_with_0 (part_bytes p)))
+        (λ fault. object_in at (element_at (drop at bytes.now)) ≡ Err fault.at) }
     ensures object { IfOk result (λ p. IsObject (layout_of (part_bytes p)) (part_bytes p)) }
     ensures place { IfErr result (λ fault. fault.at < length bytes.now) }
 {
