@@ -2,8 +2,8 @@
 use Rattle.der_values.specs.declared.oids.KnownOid.TheVariants as oids
 use Rattle.der_values.specs.declared.rules.Rule.TheVariants as rules
 use Rattle.der_values.specs.declared.rules.Test.TheVariants as tests
-use Rattle.der_values.specs.Layout.{Layout, nothing, both, element, unread, whole_element, many, told}
-use Rattle.x509_certs.specs.Layouts.{◌⨾◌, holds, is, sequence, optional, in_algorithm, algorithm, extensions, certificate}
+use Rattle.der_values.specs.Layout.{Layout, nothing, element, unread, whole_element, many, told}
+use Rattle.x509_certs.specs.Layouts.{◌⨾◌, holds, is, sequence, optional, algorithm, certificate}
 
 -- An algorithm that is one of the three digests.
 abbrev pub digest : Layout

@@ -1,3 +1,4 @@
 pub mod Layouts
 pub mod View
 pub mod Tokens
+pub mod Digests

@@ -1,12 +1,11 @@
 -- What a token says, by the places of its parts: RFC 5652, 5.1 and 5.3; RFC 3161, 2.4.2; RFC 5035, 3 and 4.
-use Rattle.std.specs.Prelude.{ℕ, ℤ, ◌+◌, ◌*◌, ◌/◌, ◌&&◌, Bool, List, [], ◌∷◌, Option, Some, None, unwrap_or, option_and_then, is_ok, find, filter, map, slice_get, ◌==◌, if◌then◌else◌}
+use Rattle.std.specs.Prelude.{ℕ, ℤ, ◌+◌, ◌*◌, ◌/◌, ◌&&◌, Bool, List, Option, Some, None, unwrap_or, is_ok, find, filter, if◌then◌else◌}
 use Rattle.std.specs.Str.{bytes_eq}
 use Rattle.der_values.specs.Element.{Element}
-use Rattle.der_values.specs.Elements.{elements, tagged, first_named}
+use Rattle.der_values.specs.Elements.{elements, tagged}
 use Rattle.der_values.specs.Kinds.{count_of}
 use Rattle.der_values.specs.Layout.{read_object}
-use Rattle.der_values.specs.Rules.{nth, content_of, whole_of, bytes_of}
-use Rattle.der_values.specs.declared.oids.KnownOid.TheVariants as oids
+use Rattle.der_values.specs.Rules.{nth, content_of}
 use Rattle.x509_certs.specs.Certificates as certificates
 use Rattle.x509_certs.specs.Layouts.{certificate}
 use Rattle.x509_certs.specs.Lists.{is_tag}

@@ -1,6 +1,7 @@
 //! Time-stamp tokens of RFC 3161 in this profile, read in place.
 #![tactic(auto)]
 
+mod digests;
 mod layouts;
 mod numbers;
 mod token;

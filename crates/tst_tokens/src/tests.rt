@@ -1,6 +1,7 @@
 //! A token that OpenSSL made, and what OpenSSL prints of it.
 
 use crate::read_token;
+use algorithms::DigestKind;
 
 static TOKEN: [u8; 1263] = [
     0x30, 0x82, 0x04, 0xEB, 0x06, 0x09, 0x2A, 0x86, 0x48, 0x86, 0xF7, 0x0D, 0x01, 0x07, 0x02, 0xA0,
@@ -90,6 +91,9 @@ fn reads_a_token(rt: HostRuntime) {
         Ok(token) => {
             assert_eq!(rt; token.gen_time(), 1_796_078_463);
             assert_eq!(rt; token.accuracy(), 2);
+            assert_eq!(rt; token.imprint_kind(), DigestKind::Sha256);
+            assert_eq!(rt; token.content_kind(), DigestKind::Sha256);
+            assert_eq!(rt; token.cert_hash_kind(), DigestKind::Sha256);
             assert_eq!(rt;
                 token.sign_oid(),
                 [0x2A, 0x86, 0x48, 0xCE, 0x3D, 4, 3, 2].as_slice()

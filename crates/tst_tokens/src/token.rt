@@ -2,19 +2,25 @@
 
 ghost use Rattle.std.specs.Prelude.{◌≡◌, ◌<◌, ◌↔◌, length, find, filter, slice_get, IsOk, IfOk, IfErr, MatchResult, Ok, Err};
 ghost use Rattle.std.specs.Option.{option_map};
+ghost use Rattle.der_values.specs.Elements as said;
 ghost use Rattle.der_values.specs.Elements.{elements};
+ghost use Rattle.der_values.specs.Rules.{content_of, bytes_of};
 ghost use Rattle.der_values.specs.Fits.{IsObject};
 ghost use Rattle.der_values.specs.Layout.{read_object};
 ghost use Rattle.tst_tokens.specs.Layouts as layout;
+ghost use Rattle.tst_tokens.specs.Digests as names;
 ghost use Rattle.tst_tokens.specs.Tokens as says;
 ghost use Rattle.tst_tokens.specs.View.{token_bytes};
+ghost use Rattle.x509_certs.specs.Signed as signed;
 ghost use Rattle.x509_certs.specs.View.{certificate_bytes};
 
+use crate::digests::kind_named;
 use crate::layouts::TOKEN;
 use crate::numbers::seconds_of_accuracy;
-use der_values::{check, elements_of, part, piece};
+use algorithms::DigestKind;
+use der_values::{KnownOid, check, elements_of, part, piece};
 use x509_certs::{
-    CertFault, Certificate, algorithm_name, has_tag, read_certificate, tagged, time_at,
+    CertFault, Certificate, algorithm_name, first_named, has_tag, read_certificate, tagged, time_at,
 };
 
 /// A time-stamp token, borrowed. Its parts are found anew at each call.
@@ -30,7 +36,9 @@ pub struct Token<'a> {
 pub fn read_token<'a>(bytes: &'a [u8]) -> Result<Token<'a>, CertFault>
     ensures exact { IsOk result ↔ IsObject layout.token bytes.now }
     ensures ok { IfOk result (λ t. token_bytes t ≡ bytes.now) }
-    ensures judged { MatchResult result (λ t. read_object layout.token bytes.now ≡ Ok (length bytes.now)) (λ fault. read_object layout.token bytes.now ≡ Err fault.at) }
+    ensures judged { MatchResult result
+        (λ t. read_object layout.token bytes.now ≡ Ok (length bytes.now))
+        (λ fault. read_object layout.token bytes.now ≡ Err fault.at) }
     ensures place { IfErr result (λ fault. 0 < length bytes.now → fault.at < length bytes.now) }
 {
     match check(&TOKEN, bytes) {
@@ -69,7 +77,48 @@ fn of_issuer<'a>(issuer: &[u8], serial: &[u8], listed: &'a [u8]) -> Option<Certi
     None
 }
 
+// The value of the signed attribute with this name, among these attributes.
+fn attribute<'a>(name: KnownOid, attributes: &'a [u8]) -> &'a [u8]
+    ensures { result.now ≡ signed.part 1 (content_of (said.first_named (bytes_of name) attributes.now)) }
+{
+    part(1, first_named(name, attributes))
+}
+
 impl<'a> Token<'a> {
+    /// The kind of the imprint's digest (RFC 3161, 2.4.2).
+    pub fn imprint_kind(&self) -> DigestKind
+        ensures { result ≡ names.imprint_kind (token_bytes self.now) }
+    {
+        kind_named(part(0, part(0, part(2, self.stamp_info()))))
+    }
+
+    /// The kind of the digest of the content's octets (RFC 5652, 5.3).
+    pub fn content_kind(&self) -> DigestKind
+        ensures { result ≡ names.content_kind (token_bytes self.now) }
+    {
+        kind_named(part(0, part(2, self.signer_info())))
+    }
+
+    /// The kind of the certificate hash in signing-certificate-v2; SHA-256 where none is named (RFC 5035, 4).
+    pub fn cert_hash_kind(&self) -> DigestKind
+        ensures { result ≡ names.cert_hash_kind (token_bytes self.now) }
+    {
+        let id = self.certificate_id();
+        if has_tag(0x30, 0, id) {
+            kind_named(part(0, part(0, id)))
+        } else {
+            DigestKind::Sha256
+        }
+    }
+
+    fn certificate_id(&self) -> &'a [u8]
+        ensures { result.now ≡ names.certificate_id (token_bytes self.now) }
+    {
+        let attributes = part(3, self.signer_info());
+        let value = attribute(KnownOid::SigningCertificate, attributes);
+        part(0, part(0, part(0, value)))
+    }
+
     /// genTime in seconds since 1970; a fraction is rounded up (RFC 3161, 2.4.2).
     pub fn gen_time(&self) -> i64
         ensures { result ≡ says.gen_time (token_bytes self.now) }

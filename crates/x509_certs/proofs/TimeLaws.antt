@@ -1,6 +1,6 @@
 -- Of what reads as a certificate or a CRL the times that have to stand do.
-use Rattle.std.proofs.Common.{◌≡◌, ℕ, ℤ, Bool, true, false, cond, List, [], ◌++◌, Option, Some, None, refl, sym, ap, subst, ◌∙◌, IsTrue, IsSome}
-use Rattle.std.specs.Prelude.{is_some, ◌==◌, length}
+use Rattle.std.proofs.Common.{◌≡◌, ℕ, ℤ, Bool, true, false, cond, List, [], ◌++◌, Option, Some, None, refl, sym, ap, subst, ◌∙◌, IsSome}
+use Rattle.std.specs.Prelude.{◌==◌, length}
 use Rattle.std.specs.Bool.{MatchBool}
 use Rattle.std.proofs.lemmas.List.{append-nil}
 use Rattle.der_values.specs.Element.{Element}
@@ -8,11 +8,11 @@ use Rattle.der_values.specs.Rules.{nth, allows, decides, content_of, tag_of}
 use Rattle.der_values.specs.declared.rules.Rule.TheVariants as rules
 use Rattle.der_values.specs.declared.rules.Test.TheVariants as tests
 use Rattle.der_values.specs.Times.{seconds_of, plain_seconds_of}
-use Rattle.der_values.specs.Layout.{Layout, both, element, unread, told}
+use Rattle.der_values.specs.Layout.{Layout, both, element, unread}
 use Rattle.der_values.specs.Fits.{Fits, IsElement, IsObject}
-use Rattle.der_values.proofs.Stands.{stands, stands_alone, StandsAlone, nth_first, nth_later}
+use Rattle.der_values.proofs.Stands.{stands, stands_alone, nth_first, nth_later}
 use Rattle.x509_certs.specs.Layouts.{certificate, revocation_list, time}
-use Rattle.x509_certs.specs.Signed.{part, fields, time_of, or_0, time_or_0}
+use Rattle.x509_certs.specs.Signed.{part, fields, time_of, or_0}
 use Rattle.x509_certs.specs.Certificates.{HasTimes}
 use Rattle.x509_certs.specs.Lists.{HasUpdate}
 

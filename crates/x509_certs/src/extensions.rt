@@ -42,7 +42,8 @@ pub(crate) fn any_critical(extensions: &[u8]) -> bool
     elements_of(extensions).any(|e| is_true(e.content))
 }
 
-fn first_named<'a>(name: KnownOid, extensions: &'a [u8]) -> &'a [u8]
+/// What the first element that begins with this OID holds, or nothing.
+pub fn first_named<'a>(name: KnownOid, extensions: &'a [u8]) -> &'a [u8]
     ensures { result.now ≡ content_of (said.first_named (bytes_of name) extensions.now) }
 {
     match named(name.content(), extensions) {

@@ -11,6 +11,7 @@ mod part;
 
 pub use certificate::{Certificate, read_certificate};
 pub use crl::{Crl, read_crl};
+pub use extensions::first_named;
 pub use fault::CertFault;
 pub use fields::{algorithm_name, has_tag, tagged, time_at};
 pub use layouts::{ALGORITHM, CERTIFICATE};
