@@ -1,0 +1,39 @@
+use Rattle.std.proofs.Common.{◌≡◌, ℕ, suc, List, [], ◌++◌, ◌∷◌, length, true, false, subst, sym, ◌∙◌}
+use Rattle.std.specs.Prelude.{encode_utf8_all}
+use Rattle.document_model.specs.PlainText.{plain_lines}
+use Rattle.doc_spans.specs.Below.{nodes_from}
+use Rattle.doc_spans.specs.Rest.{rest}
+use Rattle.doc_spans.specs.Seen.{NameBelow, document_in}
+use Rattle.doc_spans.specs.declared.documents.Doc.{Doc}
+use Rattle.document_model.specs.Canonical.{octets_of}
+use Rattle.document_model.specs.NodeSets.{whole}
+use Rattle.canon_forms.specs.Forms.{form_in}
+use Rattle.canon_forms.proofs.PlainNodes.{one_more, child_of, first_written, other_written, whole_written}
+use Rattle.canon_forms.proofs.writing.to_vec.Goals as goal
+
+pub loop-node-preserved-then-is_element : goal.loop-node-preserved-then-is_element
+loop-node-preserved-then-is_element c =
+    let doc = c.doc-doc.result in
+    let i = length c.loop-node.yielded in
+    let next = child_of doc [] i _ _ c.in-Some.node c.in-Some.ensures.steps c.loop-node.invariant.2 in
+    let more : suc i ≡ length (c.loop-node.yielded ++ c.in-Some.node ∷ []) = one_more c.loop-node.yielded c.in-Some.node in
+    let P : ℕ → Type 0 = λ n. NameBelow doc [] n (rest c.next.new.self) in
+    let Q : ℕ → Type 0 = λ n. c.put_node.new.out ++ encode_utf8_all (plain_lines true (nodes_from n (document_in doc))) ≡ encode_utf8_all (plain_lines false (document_in doc)) in
+    (tt, tt, subst P more next.later,
+    subst Q more (first_written doc i c.in-Some.node _ c.loop-node.out c.put_node.new.out _ c.loop-node.behind next (sym c.is_element.ensures ∙ c.if-is_element.true) c.in_ok-put_node.ensures c.loop-node.invariant.3))
+
+pub loop-node-preserved : goal.loop-node-preserved
+loop-node-preserved c =
+    let doc = c.doc-doc.result in
+    let i = length c.loop-node.yielded in
+    let next = child_of doc [] i _ _ c.in-Some.node c.in-Some.ensures.steps c.loop-node.invariant.2 in
+    let more : suc i ≡ length (c.loop-node.yielded ++ c.in-Some.node ∷ []) = one_more c.loop-node.yielded c.in-Some.node in
+    let P : ℕ → Type 0 = λ n. NameBelow doc [] n (rest c.next.new.self) in
+    let Q : ℕ → Type 0 = λ n. c.put_line.new.out ++ encode_utf8_all (plain_lines c.loop-node.behind (nodes_from n (document_in doc))) ≡ encode_utf8_all (plain_lines false (document_in doc)) in
+    (tt, tt, subst P more next.later,
+    subst Q more (other_written doc i c.in-Some.node _ c.loop-node.out c.put_line.new.out _ c.loop-node.behind next (sym c.is_element.ensures ∙ c.if-is_element.false) c.in_ok-put_line.ensures c.loop-node.invariant.3))
+
+pub returns : goal.returns
+returns c =
+    let P : Doc → Type 0 = λ doc. c.loop-node.out ≡ octets_of (form_in c.args._form.now) whole (document_in doc) in
+    subst P c.doc-doc.ensures (whole_written c.doc-doc.result c.args._form.now c.loop-node.behind (length c.loop-node.yielded) _ c.loop-node.out c.in-None.ensures.steps.0 c.loop-node.invariant.2 c.loop-node.invariant.3)

@@ -1,0 +1,9 @@
+pub mod Element
+pub mod Kinds
+pub mod Times
+pub mod Rules
+pub mod Layout
+pub mod Fits
+pub mod Elements
+pub mod View
+pub mod Meaning

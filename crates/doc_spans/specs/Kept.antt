@@ -1,0 +1,16 @@
+-- What is kept of the items before a place, in the code.
+use Rattle.doc_spans.specs.declared.standing.Standing as code
+use Rattle.doc_spans.specs.Standing.{Standing}
+use Rattle.doc_spans.specs.OpenTags.{tags_in}
+
+abbrev pub standing_in : code.Standing → Standing
+standing_in s = record {
+  outer = tags_in s.open.items;
+  begun = s.begun;
+  first = s.first;
+  front = s.front;
+  bracket = s.bracket;
+  brackets = s.brackets;
+  in_text = s.in_text;
+  nodes = s.nodes;
+}

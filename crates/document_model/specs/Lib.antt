@@ -1,0 +1,13 @@
+pub mod Characters
+pub mod Names
+pub mod Items
+pub mod Tree
+pub mod Scopes
+pub mod Documents
+pub mod Plain
+pub mod NodeSets
+pub mod Canonical
+pub mod PlainText
+pub mod Insertion
+pub mod Places
+pub mod Methods

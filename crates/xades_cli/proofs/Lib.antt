@@ -1,0 +1,4 @@
+pub mod GrammarLemmas
+pub mod PlanLemmas
+pub mod RunLemmas
+pub mod WordLemmas

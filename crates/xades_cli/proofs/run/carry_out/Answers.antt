@@ -1,0 +1,19 @@
+use Rattle.std.proofs.Common.{◌≡◌, [], map, string_bytes, sym, subst}
+use Rattle.xades_cli.specs.Grammar.{IsFaultyWord}
+use Rattle.xades_cli.specs.Words.{Asked, asked_by, asked_of, patterns}
+use Rattle.xades_cli.specs.Wanted.{fetch}
+use Rattle.xades_cli.specs.Outcomes.{wants_of}
+use Rattle.xades_cli.specs.Answers.{IsSized}
+use Rattle.xades_cli.proofs.RunLemmas.{no_command}
+use Rattle.xades_cli.proofs.run.carry_out.Goals as goal
+
+pub returns-in-Ok-clause-sized : goal.returns-in-Ok-clause-sized
+returns-in-Ok-clause-sized g c = λ files e.
+    let asked : asked_by (map string_bytes c.args.words.now.items) ≡ asked_of c.in-Ok.command = rw (← c.as_slice.ensures.value) c.in-Ok.ensures.1 in
+    let P : Asked → Type 0 = λ what. IsSized c.perform.result.status (fetch files [] (wants_of what)) c.perform.result.size in
+    subst P (sym asked) (c.perform.ensures.sized files e)
+
+pub returns-in-Err-clause-told : goal.returns-in-Err-clause-told
+returns-in-Err-clause-told g c = λ files e command.
+    let faulty : IsFaultyWord patterns (map string_bytes c.args.words.now.items) c.in-Err.index = rw (← c.as_slice.ensures.value) c.in-Err.ensures in
+    absurd (no_command (map string_bytes c.args.words.now.items) c.in-Err.index faulty command)

@@ -1,0 +1,48 @@
+-- The number of a status, and the line that it puts on err.
+use Rattle.std.specs.Prelude.{◌≡◌, ◌⊎◌, ℕ, List, [], ◌++◌, Option, Some, codes, decimal, unwrap_or}
+use Rattle.xa_io.specs.Shelf.{Files}
+use Rattle.xa_io.specs.Sink.{appended, GaveFirst}
+use Rattle.xa_io.specs.Causes.{Rose}
+use Rattle.xades_cli.specs.Words.{Asked}
+use Rattle.xades_cli.specs.Wanted.{fetch}
+use Rattle.xades_cli.specs.Outcomes.{wants_of}
+use Rattle.xades_cli.specs.Answers.{IsSized}
+use Rattle.doc_spans.specs.Faults.{fault_number, fault_place}
+use Rattle.xades_cli.specs.declared.status.Status.{Status}
+use Rattle.xades_cli.specs.declared.status.Status.TheVariants.{Done, BadWords, NoSuchFile, ReadFault, WriteFault, TooLong, BadDocument, OutOfMemory}
+
+-- the number of a status, with which the process ends
+abbrev pub status_number : Status → ℕ
+status_number Done = 0
+status_number (BadWords index) = 2
+status_number (NoSuchFile name) = 3
+status_number (ReadFault name) = 4
+status_number WriteFault = 5
+status_number (TooLong name got) = 6
+status_number (BadDocument why) = 7
+status_number OutOfMemory = 11
+
+-- the line for a fault of a document, by its number and its place; the place of a fault at the end is the document's length
+abbrev pub fault_line : ℕ → ℕ → List ℕ
+fault_line number place = (codes "xades: document fault " ++ decimal number ++ codes " at ") ++ (decimal place ++ codes "\n")
+
+-- the line of a status, where the document is of this size
+abbrev pub line_of : ℕ → Status → List ℕ
+line_of size Done = []
+line_of size (BadWords index) = codes "xades: word " ++ decimal index ++ codes " is not understood\n"
+line_of size (NoSuchFile name) = codes "xades: no such file: " ++ name ++ codes "\n"
+line_of size (ReadFault name) = codes "xades: read fault: " ++ name ++ codes "\n"
+line_of size WriteFault = codes "xades: write fault\n"
+line_of size (TooLong name got) = codes "xades: too long: " ++ name ++ codes "\n"
+line_of size (BadDocument why) = fault_line (fault_number why) (unwrap_or (fault_place why) size)
+line_of size OutOfMemory = codes "xades: out of memory\n"
+
+-- a text was given, or a first part of it where the faults rose
+abbrev pub Gives : List ℕ → Option (List ℕ) → Option (List ℕ) → ℕ → ℕ → Type 0
+Gives text before now faults_before faults_now = (now ≡ appended before text) ⊎ (Rose faults_before faults_now × GaveFirst text before now)
+
+-- the line of a status was given, where the document of a command is of the size that the shelf tells
+pub record Tells (asked : Asked) (held : Option Files) (status : Status) (before now : Option (List ℕ)) (faults_before faults_now : ℕ) : Type 0 where
+  pub size : ℕ
+  pub told : (files : Files) → held ≡ Some files → IsSized status (fetch files [] (wants_of asked)) size
+  pub given : Gives (line_of size status) before now faults_before faults_now
