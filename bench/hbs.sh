@@ -10,7 +10,7 @@
 #         66 pairs of the L-tree and for each height.
 set -e
 cd "$(dirname "$0")/../crates/hbs_bench"
-rt run > /dev/null
+rt run > /dev/null 2>&1
 program=out/hbs_bench
 
 # The microseconds that the program takes for some words.
@@ -20,17 +20,17 @@ micros() {
   echo $((${EPOCHREALTIME/[.,]/} - start))
 }
 
-calls=1000000
-block=$(micros sha256 $calls)
-echo "sha256: $((calls * 1000000 / block)) blocks per second"
+calls=200000
+echo "sha256: $((calls * 1000000 / $(micros sha256 $calls))) blocks per second"
 
-# A name, the blocks of a verification, the count, and the words.
+# A name, the blocks of a verification, the count, and the words. The hash is timed anew for each.
 report() {
   local name=$1 blocks=$2 count=$3
   shift 3
-  local time
+  local block time
+  block=$(micros sha256 $calls)
   time=$(micros "$@" "$count")
-  echo "$name: $((count * 1000000 / time)) per second, $((100 * blocks * count * (block / 1000) / (calls / 1000) / time))% in SHA-256"
+  echo "$name: $((count * 1000000 / time)) per second, $((100 * blocks * count * block / calls / time))% in SHA-256"
 }
 
 steps=(0 133 200 506 4442)

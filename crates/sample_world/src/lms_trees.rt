@@ -1,7 +1,7 @@
 //! LMS keys of type 5 with LM-OTS type 4 that are made from a seed (RFC 8554, sections 4 and 5, and
 //! Appendix A).
 
-ghost use Rattle.std.specs.Prelude.{◌≡◌, ℕ, ◌+◌, ◌*◌, ◌^◌, ◌<◌, ◌≤◌, ◌++◌, ◌↔◌, IsTrue, IfOk, OnOk, length, slice_get, Some};
+ghost use Rattle.std.specs.Prelude.{◌≡◌, ℕ, ◌+◌, ◌*◌, ◌^◌, ◌<◌, ◌≤◌, ◌++◌, ◌↔◌, IsTrue, IfOk, OnOk, length, slice_get, Some, []};
 ghost use Rattle.sample_world.specs.LmsSeed.{LmsSeed};
 ghost use Rattle.sample_world.specs.LmsKeys.{secret, ots_values, path, one_time_key, node, lms_key, lms_signature};
 ghost use Rattle.sample_world.specs.World.{id_of, seed_of, randomizer};
@@ -190,7 +190,9 @@ pub struct LmsTrees {
 
 impl LmsTrees {
     /// No keys yet.
-    pub fn new(alloc: Global) -> LmsTrees {
+    pub fn new(alloc: Global) -> LmsTrees
+        ensures { result.trees.items ≡ [] }
+    {
         LmsTrees {
             trees: Vec::new(alloc),
         }

@@ -1,6 +1,6 @@
 //! The XMSS key of set 1 that a world's secret makes (RFC 8391, sections 3.1 and 4.1).
 
-ghost use Rattle.std.specs.Prelude.{◌≡◌, ℕ, ◌+◌, ◌*◌, ◌^◌, ◌<◌, ◌≤◌, ◌++◌, ◌↔◌, IsTrue, IfOk, OnOk, length, slice_get, Some};
+ghost use Rattle.std.specs.Prelude.{◌≡◌, ℕ, ◌+◌, ◌*◌, ◌^◌, ◌<◌, ◌≤◌, ◌++◌, ◌↔◌, IsTrue, IfOk, OnOk, length, slice_get, Some, []};
 ghost use Rattle.sample_world.specs.Joined.{listed};
 ghost use Rattle.sample_world.specs.World.{xmss_secret, xmss_seed, xmss_randomizer};
 ghost use Rattle.sample_world.specs.XmssKeys.{chain_end, leaf, node, key, ots_values, path, signature};
@@ -165,7 +165,9 @@ pub struct XmssTrees {
 
 impl XmssTrees {
     /// No keys yet.
-    pub fn new(alloc: Global) -> XmssTrees {
+    pub fn new(alloc: Global) -> XmssTrees
+        ensures { result.trees.items ≡ [] }
+    {
         XmssTrees {
             trees: Vec::new(alloc),
         }
