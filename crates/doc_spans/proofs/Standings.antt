@@ -10,7 +10,7 @@ use Rattle.doc_spans.specs.Standing.{standing_of, may_stand, is_deep, new_texts,
 use Rattle.doc_spans.proofs.Run.{opens}
 use Rattle.doc_spans.proofs.Tags.{none_open}
 
-flat : (before : List Item) → is_empty (open_elements before) ≡ nat_eq (depth before) 0
+pub flat : (before : List Item) → is_empty (open_elements before) ≡ nat_eq (depth before) 0
 flat before = none_open (open_elements before) ∙ ap (λ n. nat_eq n 0) (sym (opens before))
 
 texts_same : (before : List Item) (cs : List ℕ) → new_texts (standing_of before) cs ≡ text_nodes before cs

@@ -1,6 +1,6 @@
 -- The characters of a text node: those of the items that its place spans.
 use Rattle.std.specs.Prelude.{◌≡◌, ℕ, ◌+◌, List, [], ◌∷◌, ◌++◌, length, drop, Some}
-use Rattle.document_model.specs.Items.{Item, Piece, piece_at, declaration, start_tag, empty_tag, end_tag, character, reference, cdata, comment, instruction}
+use Rattle.document_model.specs.Items.{Item, Piece, piece_at, character, reference, cdata}
 use Rattle.document_model.specs.Tree.{Nodes, Text, node_at}
 use Rattle.document_model.specs.Places.{Place}
 

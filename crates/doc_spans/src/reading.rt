@@ -1,11 +1,11 @@
 //! Reading a document: its legal items, one after another, and the rows that they make.
 
-ghost use Rattle.std.specs.Prelude.{◌≡◌, ◌<◌, ◌≤◌, drop, length, Some, IfSome, IfOk, IfErr, OnOk, option_map, not, ◌&&◌, if◌then◌else◌};
+ghost use Rattle.std.specs.Prelude.{◌≡◌, ◌<◌, ◌≤◌, ◌+◌, drop, length, Some, IfSome, IfOk, IfErr, OnOk, option_map, not, ◌&&◌, if◌then◌else◌};
 ghost use Rattle.document_model.specs.Plain.{IsPlain};
 ghost use Rattle.document_model.specs.Documents.{limits, Depth, TooMany};
 ghost use Rattle.xml_items.specs.Items.{item_in, IsRead};
 ghost use Rattle.xml_items.specs.Scanned.{piece_in};
-ghost use Rattle.doc_spans.specs.Standing.{is_deep, is_one_too_many, legal_here, fault_with, legal_within_here, after};
+ghost use Rattle.doc_spans.specs.Standing.{is_deep, is_one_too_many, legal_here, fault_with, legal_within_here, run_here, after};
 ghost use Rattle.doc_spans.specs.Faults.{fault_in, MissesItem, IsFirstFault, IsFaultOf};
 ghost use Rattle.doc_spans.specs.Kept.{standing_in};
 ghost use Rattle.doc_spans.specs.Marks.{shape_of};
@@ -26,6 +26,7 @@ use crate::trees::Tree;
 use std::alloc::Global;
 use xa_io::Steps;
 use xml_items::items::Found;
+use xml_items::runs::ordinary_run;
 use xml_items::scanner::{Scanned, next_item};
 use xml_items::texts::is_empty;
 
@@ -165,6 +166,19 @@ fn section_shape(text: &str) -> Shape
     }
 }
 
+// How many characters at a place stand for themselves and do nothing but go on with a text.
+fn run_there<'a>(bytes: &[u8], at: usize, standing: &Standing<'a>) -> usize
+    requires { at ≤ length bytes.now }
+    ensures run { result ≡ run_here (standing_in standing.now) (drop at bytes.now) }
+    ensures bound { at + result ≤ length bytes.now }
+{
+    if standing.goes_on() {
+        ordinary_run(bytes, at)
+    } else {
+        0
+    }
+}
+
 // Takes a legal item.
 fn take_item<'a>(
     builder: &mut Builder,
@@ -205,10 +219,17 @@ fn read_rows<L>(alloc: Global, bytes: &[u8], steps: &mut Steps<L>) -> Result<Bui
     let mut standing = Standing::new(alloc);
     let mut at = 0;
     'items: while at < bytes.len() {
-        let item = legal_item(bytes, at, &standing)?;
-        take_item(&mut builder, &mut standing, item)?;
-        count_bytes(steps, item.end - at);
-        at = item.end;
+        let run = run_there(bytes, at, &standing);
+        let end = if run > 0 {
+            builder.add(Shape::Characters, (at + run) as u32)?;
+            at + run
+        } else {
+            let item = legal_item(bytes, at, &standing)?;
+            take_item(&mut builder, &mut standing, item)?;
+            item.end
+        };
+        count_bytes(steps, end - at);
+        at = end;
     }
     if standing.is_complete() {
         Ok(builder)

@@ -3,7 +3,7 @@
 ghost use Rattle.std.specs.Prelude.{◌≡◌, ◌+◌, ◌≤◌, ◌||◌, [], ◌∷◌, IfOk, length, drop, if◌then◌else◌};
 ghost use Rattle.document_model.specs.Characters.{is_empty, with_line_ends};
 ghost use Rattle.std.specs.Str.{chars};
-ghost use Rattle.doc_spans.specs.Standing.{standing_of, may_stand, may_stand_as_text, may_open, is_deep, new_texts, nodes_added, is_one_too_many, is_complete, after, outer_after, begins_element, is_the_character, text_after};
+ghost use Rattle.doc_spans.specs.Standing.{standing_of, goes_on, may_stand, may_stand_as_text, may_open, is_deep, new_texts, nodes_added, is_one_too_many, is_complete, after, outer_after, begins_element, is_the_character, text_after};
 ghost use Rattle.doc_spans.specs.OpenTags.{tag_in, tags_in};
 ghost use Rattle.document_model.specs.Items.{cdata};
 ghost use Rattle.document_model.specs.Documents.{closes, limits};
@@ -75,6 +75,15 @@ impl<'a> Standing<'a> {
         ensures { result ≡ is_empty (tags_in self.now.open.items) }
     {
         self.open.is_empty()
+    }
+
+    // Whether a text goes on in an element, behind a character that no rule looks back to.
+    pub(crate) fn goes_on(&self) -> bool
+        ensures { result ≡ goes_on (standing_in self.now) }
+    {
+        self.in_text
+            && !self.is_outside()
+            && !(self.bracket || self.brackets || self.first || self.front)
     }
 
     // Whether an item may follow, the limits aside.

@@ -1,10 +1,13 @@
-use Rattle.std.proofs.Common.{◌≡◌, ℕ, ◌+◌, ◌-◌, subst, ◌∙◌, sym, ap, cond, None, Some, refl, drop, arith}
+use Rattle.std.proofs.Common.{◌≡◌, ℕ, ◌+◌, ◌-◌, ◌<◌, subst, ◌∙◌, sym, ap, cond, None, Some, refl, drop, arith}
 use Rattle.std.proofs.lemmas.Result.{err_from_is_err_and}
 use Rattle.document_model.specs.Documents.{End}
 use Rattle.xml_items.specs.Scanned.{piece_in}
 use Rattle.doc_spans.specs.Building.{state_of}
 use Rattle.doc_spans.specs.Kept.{standing_in}
-use Rattle.doc_spans.proofs.ReadSoFar.{read_first, read_next, read_fault, fault_found, few_after, CountedTo, counted_next, read_tree, read_whole, read_all}
+use Rattle.doc_spans.specs.Standing.{Standing}
+use Rattle.doc_spans.proofs.ReadSoFar.{read_first, read_next, read_fault, fault_found, few_after, CountedTo, counted_next, read_tree, read_whole, read_all, ReadTo}
+use Rattle.doc_spans.proofs.RunsOfText.{run_next}
+use Rattle.doc_spans.proofs.reading.read_rows.Goals.{then-run-gt0+in_ok-add, else-run-gt0+in_ok-item+in_ok-take_item}
 use Rattle.doc_spans.proofs.reading.read_rows.Goals as goal
 
 pub items-init : goal.items-init
@@ -13,7 +16,7 @@ items-init g c =
 
 pub returns-in_err-item-clause-fault : goal.returns-in_err-item-clause-fault
 returns-in_err-item-clause-fault g c =
-    let p = err_from_is_err_and c.from_residual.result c.from_residual.ensures.1 in
+    let p = err_from_is_err_and c.from_residual-in_err-item.result c.from_residual-in_err-item.ensures.1 in
     let m = c.in_err-item.ensures.fault in
     rw (p.1, p.2)
     (fault_found c.in_err-item.field-0.0 c.args.bytes.now _
@@ -25,12 +28,29 @@ take_item-requires-clause-few g c =
 
 pub items-preserved : goal.items-preserved
 items-preserved g c =
-    let n : c.items.at + (c.in_ok-item.item.end - c.items.at) ≡ c.in_ok-item.item.end = omega (arith, c.in_ok-item.ensures.within.0) in
-    let P : ℕ → Type 0 = λ k. CountedTo c.args.steps.now k c.count_bytes.new.steps in (
-      read_next c.args.bytes.now c.items.at c.in_ok-item.item.end (state_of c.items.builder) (state_of c.take_item.new.builder) (standing_in c.items.standing) (standing_in c.take_item.new.standing)
-          (piece_in c.args.bytes.now c.items.at c.in_ok-item.item).0 c.requires c.in_ok-item.ensures.within.1 c.items.invariant.0 c.in_ok-item.ensures.legal c.in_ok-take_item.ensures.rows c.in_ok-take_item.ensures.standing,
-      subst P n (counted_next c.args.steps.now c.items.at (c.in_ok-item.item.end - c.items.at) c.items.steps c.count_bytes.new.steps c.items.invariant.1 (omega (arith, c.in_ok-item.ensures.within.0)) c.count_bytes.ensures),
-    )
+    let bytes = c.args.bytes.now in
+    let at = c.items.at in
+    let end = c.if-run-gt0.end in
+    let small = c.requires in
+    let r = c.items.invariant.0 in
+    let Counted : ℕ → Type 0 = λ k. CountedTo c.args.steps.now k c.count_bytes.new.steps in
+    let P : ℕ → Type 0 = λ k. ReadTo bytes k (state_of c.if-run-gt0.builder) (standing_in c.if-run-gt0.standing) in
+    let counted : at < end → Counted end = λ h.
+    let m : at + (end - at) ≡ end = omega (arith, h) in
+    subst Counted m (counted_next c.args.steps.now at (end - at) c.items.steps c.count_bytes.new.steps c.items.invariant.1 (omega (arith, h)) c.count_bytes.ensures) in
+    elim c.if-run-gt0.branch [
+      | then-run-gt0+in_ok-add w ↦
+          let run = c.run_there-run.result in
+          let Q : Standing → Type 0 = λ st. ReadTo bytes (at + run) (state_of c.if-run-gt0.builder) st in
+          let read = run_next bytes at run (state_of c.items.builder) (state_of c.if-run-gt0.builder) (standing_in c.items.standing) small c.run_there-run.ensures.run w.if-run-gt0.true r
+          (ap state_of w.builder-is ∙ w.in_ok-add.ensures) in
+          (subst P (sym w.end-is) (subst Q (sym (ap standing_in w.standing-is)) read), counted (omega (arith, w.end-is, w.if-run-gt0.true)))
+      | else-run-gt0+in_ok-item+in_ok-take_item w ↦
+          let piece = (piece_in bytes at w.in_ok-item.item).0 in
+          let read = read_next bytes at w.in_ok-item.item.end (state_of c.items.builder) (state_of c.if-run-gt0.builder) (standing_in c.items.standing) (standing_in c.if-run-gt0.standing) piece small
+          w.in_ok-item.ensures.within.1 r w.in_ok-item.ensures.legal (ap state_of w.builder-is ∙ w.in_ok-take_item.ensures.rows) (ap standing_in w.standing-is ∙ w.in_ok-take_item.ensures.standing) in
+          (subst P (sym w.end-is) read, counted (omega (arith, w.end-is, w.in_ok-item.ensures.within.0)))
+    ]
 
 pub returns-then-is_complete-clause-tree : goal.returns-then-is_complete-clause-tree
 returns-then-is_complete-clause-tree g c =

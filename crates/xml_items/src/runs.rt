@@ -1,0 +1,24 @@
+// Runs of characters that stand for themselves.
+ghost use Rattle.std.specs.Prelude.{◌≡◌, ◌≤◌, ◌+◌, length, drop};
+ghost use Rattle.document_model.specs.Characters.{span};
+ghost use Rattle.xml_items.specs.Runs.{is_ordinary};
+
+// Whether a byte is a character that stands for itself wherever a text goes on.
+fn is_ordinary(byte: u8) -> bool
+    ensures { result ≡ is_ordinary byte }
+{
+    matches!(byte, 0x9..=0xA | 0x20..=0x25 | 0x27..=0x3B | 0x3D | 0x3F..=0x5C | 0x5E..=0x7E)
+}
+
+/// How many such characters stand in a row at a place.
+pub fn ordinary_run(bytes: &[u8], at: usize) -> usize
+    requires { at ≤ length bytes.now }
+    ensures run { result ≡ length (span is_ordinary (drop at bytes.now)).0 }
+    ensures bound { at + result ≤ length bytes.now }
+{
+    let mut end = at;
+    'run: while end < bytes.len() && is_ordinary(bytes[end]) {
+        end += 1;
+    }
+    end - at
+}
