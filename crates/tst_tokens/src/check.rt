@@ -85,17 +85,19 @@ fn check_digests(alloc: Global, token: &Token<'_>, covered: &Digest) -> Result<(
     Ok(())
 }
 
-/// Whether a token is sound over a digest, which is that of the covered octets by the token's `imprint_kind`.
+/// Whether a token is sound over a digest, which is to be that of the covered octets by the token's `imprint_kind`.
 ///
-/// Ok exactly where the imprint is that digest, messageDigest is the digest of the content's octets, a certificate of the token is
-/// the signer's, signing-certificate-v2 has that certificate's hash, the certificate is for stamping time, the signature is of a known
-/// kind which the key has too, and it holds for the signed attributes. Else the first of these, in this order, that isn't so is the
-/// fault. Memory is taken for the bytes that a fault keeps and for the signed text alone; the faults that keep nothing but `Fails` are
-/// answered without any.
+/// Ok exactly where the imprint is that digest, messageDigest is the digest of the content's octets, the signer's certificate is in the
+/// token, signing-certificate-v2 has the hash of that certificate, the certificate is for stamping time, the signature and the key are of
+/// one known kind, and the signature holds for the signed attributes. Else the fault is of the first of these, in this order, that isn't
+/// so.
+///
+/// `OutOfMemory` comes only where bytes have to be kept or the signed text put together; nothing else takes memory.
 pub fn check_token(alloc: Global, token: &Token<'_>, covered: &Digest) -> Result<(), TokenFault>
     ensures judged { MatchResult result
         (λ done. sound.IsSound covered.now (token_bytes token.now))
         (λ fault. sound.IsFirst covered.now (token_bytes token.now) fault) }
+    ensures exact { sound.IsSound covered.now (token_bytes token.now) → IfErr result (λ fault. fault ≡ TokenFault.OutOfMemory) }
 {
     check_digests(alloc, token, covered)?;
     let Some(signer) = token.signer() else {
