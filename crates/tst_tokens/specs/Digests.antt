@@ -1,5 +1,5 @@
 -- The digests that a token names: RFC 3161, 2.4.2 (messageImprint); RFC 5652, 5.3 (SignerInfo); RFC 5035, 4 (ESSCertIDv2).
-use Rattle.std.specs.Prelude.{ℕ, List, Option, if◌then◌else◌}
+use Rattle.std.specs.Prelude.{ℕ, List, if◌then◌else◌}
 use Rattle.std.specs.Str.{bytes_eq}
 use Rattle.algorithms.specs.DigestKind.{oid_of}
 use Rattle.algorithms.specs.declared.digest_kinds.DigestKind.{DigestKind}

@@ -2,3 +2,4 @@ pub mod Layouts
 pub mod View
 pub mod Tokens
 pub mod Digests
+pub mod Sound

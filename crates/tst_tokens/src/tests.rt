@@ -1,7 +1,10 @@
 //! A token that OpenSSL made, and what OpenSSL prints of it.
 
-use crate::read_token;
-use algorithms::DigestKind;
+use crate::{TokenFault, check_token, read_token};
+use algorithms::{Digest, DigestKind, Hasher};
+use std::alloc::Global;
+use std::test::Fail;
+use xa_io::{Octets, Octs};
 
 static TOKEN: [u8; 1263] = [
     0x30, 0x82, 0x04, 0xEB, 0x06, 0x09, 0x2A, 0x86, 0x48, 0x86, 0xF7, 0x0D, 0x01, 0x07, 0x02, 0xA0,
@@ -118,4 +121,76 @@ fn finds_the_first_bad_element(rt: HostRuntime) {
         Ok(_) => assert!(rt; false),
         Err(fault) => assert_eq!(rt; fault.at, 0),
     }
+}
+
+fn both(alloc: Global, word: &str, got: &Digest, want: &Octs) -> Result<String, Fail> {
+    let got = hex::encode(alloc, got.as_slice())?;
+    let want = hex::encode(alloc, want.as_slice())?;
+    Ok(format!(in alloc; "{word} {got} {want}")?)
+}
+
+fn told(alloc: Global, fault: &TokenFault) -> Result<String, Fail> {
+    match fault {
+        TokenFault::ImprintDiffers { got, want } => both(alloc, "imprint", got, want),
+        TokenFault::ContentDigestDiffers { got, want } => both(alloc, "content", got, want),
+        TokenFault::CertHashDiffers { got, want } => both(alloc, "certificate", got, want),
+        TokenFault::NoSigner => Ok(format!(in alloc; "no signer")?),
+        TokenFault::Purpose => Ok(format!(in alloc; "purpose")?),
+        TokenFault::UnknownKind => Ok(format!(in alloc; "unknown kind")?),
+        _ => Ok(format!(in alloc; "another")?),
+    }
+}
+
+// What `check_token` answers over the SHA-256 digest of a message.
+fn answer(alloc: Global, bytes: &[u8], message: &[u8]) -> Result<String, Fail> {
+    let mut hasher = Hasher::new(DigestKind::Sha256);
+    hasher.put(message);
+    let covered = hasher.finish();
+    let Ok(token) = read_token(bytes) else {
+        return Ok(format!(in alloc; "no token")?);
+    };
+    match check_token(alloc, &token, &covered) {
+        Ok(()) => Ok(format!(in alloc; "sound")?),
+        Err(fault) => told(alloc, &fault),
+    }
+}
+
+// The SHA-256 of the first certificate with another purpose.
+const HASH_OF_ANOTHER: [u8; 32] = [
+    0x5A, 0xDA, 0xE6, 0x29, 0x5A, 0xCC, 0x93, 0xE9, 0x27, 0x29, 0x1F, 0xD1, 0xCF, 0x21, 0xCA, 0x50,
+    0x0F, 0x36, 0x3F, 0xA7, 0xE4, 0x12, 0xFF, 0x09, 0x99, 0xC0, 0x9F, 0x1A, 0x6A, 0x03, 0xD2, 0xE2,
+];
+
+// The digests are those of sha256sum.
+#[test]
+fn names_the_first_fault(rt: HostRuntime) -> Result<(), Fail> {
+    let alloc = rt.alloc();
+    // The signature is by ECDSA.
+    assert_eq!(rt; answer(alloc, &TOKEN, b"abc")?.as_str(), "unknown kind");
+    assert_eq!(rt;
+        answer(alloc, &TOKEN, b"abd")?.as_str(),
+        "imprint a52d159f262b2c6ddb724a61840befc36eb30c88877a4030b65cbe86298449c9 ba7816bf8f01cfea414140de5dae2223b00361a396177a9cb410ff61f20015ad"
+    );
+    // The serials of TSTInfo and of SignerInfo, and the signature of the certificate.
+    let mut token = TOKEN;
+    token[130] = 3;
+    assert_eq!(rt;
+        answer(alloc, &token, b"abc")?.as_str(),
+        "content e78c1954ec017360090d6c60b45e4d56e1028fde122109a00ec2a60af719b84f 9635efd16780109787f26c395352d56ebd6f7dbbd435122eca6294012f7011fc"
+    );
+    let mut token = TOKEN;
+    token[996] = 0x2E;
+    assert_eq!(rt; answer(alloc, &token, b"abc")?.as_str(), "no signer");
+    let mut token = TOKEN;
+    token[571] = 0xFD;
+    assert_eq!(rt;
+        answer(alloc, &token, b"abc")?.as_str(),
+        "certificate fdbf72a3ee0deb132cc49e503f834edf6ab1f20a173a4b1948c298cd756e56b2 02c559794bbd7e25c96b106c5161f681ee2de0c4dba55b3c9b18cd67a2ed0810"
+    );
+    // Another purpose, with the hash of that certificate.
+    let mut token = TOKEN;
+    token[439] = 9;
+    token[1147..1179].copy_from_slice(&HASH_OF_ANOTHER);
+    assert_eq!(rt; answer(alloc, &token, b"abc")?.as_str(), "purpose");
+    Ok(())
 }

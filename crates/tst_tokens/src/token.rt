@@ -9,6 +9,7 @@ ghost use Rattle.der_values.specs.Fits.{IsObject};
 ghost use Rattle.der_values.specs.Layout.{read_object};
 ghost use Rattle.tst_tokens.specs.Layouts as layout;
 ghost use Rattle.tst_tokens.specs.Digests as names;
+ghost use Rattle.tst_tokens.specs.Sound as sound;
 ghost use Rattle.tst_tokens.specs.Tokens as says;
 ghost use Rattle.tst_tokens.specs.View.{token_bytes};
 ghost use Rattle.x509_certs.specs.Signed as signed;
@@ -111,6 +112,28 @@ impl<'a> Token<'a> {
         }
     }
 
+    // The digest in the imprint.
+    pub(crate) fn imprint(&self) -> &'a [u8]
+        ensures { result.now ≡ names.imprint (token_bytes self.now) }
+    {
+        part(1, part(2, self.stamp_info()))
+    }
+
+    // The digest in messageDigest.
+    pub(crate) fn message_digest(&self) -> &'a [u8]
+        ensures { result.now ≡ names.message_digest (token_bytes self.now) }
+    {
+        let attributes = part(3, self.signer_info());
+        part(0, attribute(KnownOid::MessageDigest, attributes))
+    }
+
+    // The hash in signing-certificate-v2.
+    pub(crate) fn cert_hash(&self) -> &'a [u8]
+        ensures { result.now ≡ names.cert_hash (token_bytes self.now) }
+    {
+        tagged(0x04, self.certificate_id())
+    }
+
     fn certificate_id(&self) -> &'a [u8]
         ensures { result.now ≡ names.certificate_id (token_bytes self.now) }
     {
@@ -172,7 +195,7 @@ impl<'a> Token<'a> {
         tagged(0xA0, self.signed_data())
     }
 
-    fn content_octets(&self) -> &'a [u8]
+    pub(crate) fn content_octets(&self) -> &'a [u8]
         ensures { result.now ≡ says.content_octets (token_bytes self.now) }
     {
         part(0, part(1, part(2, self.signed_data())))
@@ -201,5 +224,18 @@ impl<'a> Token<'a> {
         ensures { result.now ≡ says.signer_info (token_bytes self.now) }
     {
         part(0, self.signers())
+    }
+
+    // All bytes of the element [0] that holds the signed attributes.
+    pub(crate) fn signed_attributes(&self) -> &'a [u8]
+        ensures { result.now ≡ signed.piece 3 (says.signer_info (token_bytes self.now)) }
+    {
+        piece(3, self.signer_info())
+    }
+
+    pub(crate) fn signature(&self) -> &'a [u8]
+        ensures { result.now ≡ sound.signature (token_bytes self.now) }
+    {
+        part(5, self.signer_info())
     }
 }
