@@ -2,7 +2,10 @@
 //! signatures whose every octet follows from a seed. No key of it is secret.
 #![tactic(auto)]
 
+mod certificates;
+mod der_parts;
 mod lms_trees;
+mod moments;
 mod nodes;
 mod secrets;
 #[cfg(test)]
@@ -10,4 +13,5 @@ mod tests;
 mod world;
 mod xmss_trees;
 
+pub use certificates::Role;
 pub use world::{World, WorldFault};

@@ -1,8 +1,9 @@
-use crate::{World, WorldFault};
+use crate::{Role, World, WorldFault};
 use lms_verify::{Verdict, Why, verify};
 use sha2::{Digest, Sha256};
 use std::alloc::{AllocError, Global};
 use std::test::Fail;
+use x509_certs::read_certificate;
 
 // The SHA-256 of octets, in hexadecimal.
 fn hash(alloc: Global, octets: &[u8]) -> Result<String, AllocError> {
@@ -126,5 +127,38 @@ fn xmss_signatures(rt: HostRuntime) -> Result<(), Fail> {
     let verdict = xmss_verify::verify(key, b"abc", &raised);
     assert!(rt; !matches!(verdict, xmss_verify::Verdict::Good));
     assert!(rt; verdict != shape);
+    Ok(())
+}
+
+// The serial is the number of the key and 1, in the fewest octets of which the first is below 128.
+#[test]
+fn certificates(rt: HostRuntime) -> Result<(), Fail> {
+    let mut world = World::new(rt.alloc(), 1);
+    let before = 2_524_607_999; // 2049-12-31T23:59:59Z
+    let made = world.certificate(0, 127, -631_152_000, before, Role::Authority)?;
+    let key = world.key(127)?;
+    let issuer = world.key(0)?;
+    let Ok(read) = read_certificate(made.as_slice()) else {
+        assert!(rt; false);
+        return Ok(());
+    };
+    assert_eq!(rt; read.serial(), [0, 128].as_slice());
+    assert_eq!(rt; read.issuer(), b"0\x0D1\x0B0\x09\x06\x03U\x04\x03\x0C\x02K0".as_slice());
+    assert_eq!(rt; read.subject(), b"0\x0F1\x0D0\x0B\x06\x03U\x04\x03\x0C\x04K127".as_slice());
+    assert_eq!(rt; read.not_before(), -631_152_000);
+    assert_eq!(rt; read.not_after(), before);
+    assert_eq!(rt; read.key(), key.as_slice());
+    assert!(rt; read.is_ca() && read.signs_certs() && read.signs_crls());
+    assert!(rt; !read.stamps_time() && !read.strange());
+    let verdict = verify(issuer.as_slice(), read.tbs(), read.signature());
+    assert_eq!(rt; verdict, Verdict::Good);
+    let made = world.certificate(0, 1, before, before + 1, Role::Stamper)?;
+    let Ok(read) = read_certificate(made.as_slice()) else {
+        assert!(rt; false);
+        return Ok(());
+    };
+    assert_eq!(rt; read.serial(), [2].as_slice());
+    assert_eq!(rt; read.not_after(), before + 1);
+    assert!(rt; read.stamps_time() && !read.is_ca());
     Ok(())
 }

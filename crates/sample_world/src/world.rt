@@ -1,14 +1,18 @@
 //! A world: its keys, how many signatures each has made, and its calls.
 
-ghost use Rattle.std.specs.Prelude.{◌≡◌, ◌≢◌, ◌↔◌, ◌⊎◌, ℕ, ◌+◌, ◌<◌, ◌≤◌, IfOk, IfErr, OnOk, OnErr, length, replicate, slice_index, slice_set, slice_get, Some, Err};
+ghost use Rattle.std.specs.Prelude.{◌≡◌, ◌≢◌, ◌↔◌, ◌⊎◌, ℕ, ◌+◌, ◌<◌, ◌≤◌, ◌≤ℤ◌, pos, neg_ℤ, IfOk, IfErr, OnOk, OnErr, length, replicate, slice_index, slice_set, slice_get, Some, Err};
 ghost use Rattle.lms_verify.specs.Hss.{verdict};
 ghost use Rattle.lms_verify.specs.Lms.{u32_at};
 ghost use Rattle.lms_verify.specs.declared.Verdict.TheVariants.{Good};
 ghost use Rattle.sample_world.specs.LmsSeed.{LmsSeed};
 ghost use Rattle.sample_world.specs.World.{Ledger, secret_of, id_of, seed_of, key_of, signature_of, two_signatures_of, xmss_key_of, xmss_signature_of, counted};
+ghost use Rattle.sample_world.specs.Objects.{signed_of, certificate_of};
+ghost use Rattle.jiff_core.specs.Calendar.{IsBetween};
 ghost use Rattle.xmss_verify.specs.Xmss as xmss;
 ghost use Rattle.xmss_verify.specs.declared.Verdict.TheVariants as xmss_good;
 
+use crate::certificates::{Role, Terms, certificate_fields};
+use crate::der_parts::{element, signed_object};
 use crate::lms_trees::{LmsTrees, Turn};
 use crate::secrets::secret_of;
 use crate::xmss_trees::XmssTrees;
@@ -97,6 +101,25 @@ impl World {
         Ok(out)
     }
 
+    // The signature that LMS key `key` makes next, which isn't counted yet.
+    fn next_signature(&mut self, key: u32, message: &[u8]) -> Result<Octs, WorldFault>
+        requires key { key < 256 }
+        requires left { slice_index self.now.used key < 32 }
+        ensures value { IfOk result (λ s. s ≡ signature_of self.old key message.now) }
+        ensures only_memory { IfErr result (λ fault. fault ≡ WorldFault.OutOfMemory) }
+        ensures same { self.new ≡ self.old }
+    {
+        let turn = Turn {
+            key,
+            q: u32::from(self.used[key as usize]),
+        };
+        let mut out = Octs::new(self.alloc);
+        out.push_all(&[0, 0, 0, 0])?;
+        let trees = &mut self.lms_trees;
+        trees.put_signature(self.alloc, &self.secret, turn, message, &mut out)?;
+        Ok(out)
+    }
+
     /// The next signature, of one level, that LMS key `key` makes. Its q is the number of the key's
     /// earlier signatures.
     pub fn sign(&mut self, key: u32, message: &[u8]) -> Result<Octs, WorldFault>
@@ -109,19 +132,11 @@ impl World {
         ensures spent { (result ≡ Err WorldFault.Spent) ↔ (32 ≤ slice_index self.old.used key) }
         ensures err { OnErr result (self.new ≡ self.old) }
     {
-        let q = self.used[key as usize];
-        if q >= 32 {
+        if self.used[key as usize] >= 32 {
             return Err(WorldFault::Spent);
         }
-        let mut out = Octs::new(self.alloc);
-        out.push_all(&[0, 0, 0, 0])?;
-        let trees = &mut self.lms_trees;
-        let turn = Turn {
-            key,
-            q: u32::from(q),
-        };
-        trees.put_signature(self.alloc, &self.secret, turn, message, &mut out)?;
-        self.used[key as usize] = q + 1;
+        let out = self.next_signature(key, message)?;
+        self.used[key as usize] += 1;
         Ok(out)
     }
 
@@ -196,5 +211,57 @@ impl World {
         trees.put_signature(self.alloc, &self.secret, idx, message, &mut out)?;
         self.xmss_used = idx + 1;
         Ok(out)
+    }
+
+    // The object of these fields, which LMS key `key` signs.
+    fn signed(&mut self, key: u32, fields: &[u8]) -> Result<Octs, WorldFault>
+        requires key { key < 256 }
+        requires left { slice_index self.now.used key < 32 }
+        ensures value { IfOk result (λ o. o ≡ signed_of self.old key fields.now) }
+        ensures counted { OnOk result (self.new ≡ counted self.old key) }
+        ensures only_memory { IfErr result (λ fault. fault ≡ WorldFault.OutOfMemory) }
+        ensures err { OnErr result (self.new ≡ self.old) }
+    {
+        let to_be_signed = element(self.alloc, 0x30, fields)?;
+        let to_be_signed = to_be_signed.as_slice();
+        let signature = self.next_signature(key, to_be_signed)?;
+        let object = signed_object(self.alloc, to_be_signed, signature.as_slice())?;
+        self.used[key as usize] += 1;
+        Ok(object)
+    }
+
+    /// A certificate of key `subject` by key `issuer`. Its serial is `subject` + 1, and the names are
+    /// `K` and the numbers. The times are seconds since 1970, of the years 1950 to 9999.
+    pub fn certificate(
+        &mut self,
+        issuer: u32,
+        subject: u32,
+        from: i64,
+        to: i64,
+        role: Role,
+    ) -> Result<Octs, WorldFault>
+        requires issuer { issuer < 256 }
+        requires subject { subject < 256 }
+        requires from { IsBetween (neg_ℤ (pos 631_152_000)) (pos 253_402_300_799) from }
+        requires to { IsBetween (neg_ℤ (pos 631_152_000)) (pos 253_402_300_799) to }
+        ensures value { IfOk result (λ c. c ≡ certificate_of self.old issuer subject from to role) }
+        ensures counted { OnOk result (self.new ≡ counted self.old issuer) }
+
+        ensures spent { (result ≡ Err WorldFault.Spent) ↔ (32 ≤ slice_index self.old.used issuer) }
+        ensures err { OnErr result (self.new ≡ self.old) }
+    {
+        if self.used[issuer as usize] >= 32 {
+            return Err(WorldFault::Spent);
+        }
+        let key = self.key(subject)?;
+        let terms = Terms {
+            issuer,
+            subject,
+            from,
+            to,
+            role,
+        };
+        let fields = certificate_fields(self.alloc, terms, key.as_slice())?;
+        self.signed(issuer, fields.as_slice())
     }
 }
