@@ -6,4 +6,5 @@ pub mod World
 pub mod Moments
 pub mod Parts
 pub mod Certificates
+pub mod Lists
 pub mod Objects

@@ -4,6 +4,7 @@
 
 mod certificates;
 mod der_parts;
+mod lists;
 mod lms_trees;
 mod moments;
 mod nodes;

@@ -3,7 +3,7 @@ use lms_verify::{Verdict, Why, verify};
 use sha2::{Digest, Sha256};
 use std::alloc::{AllocError, Global};
 use std::test::Fail;
-use x509_certs::read_certificate;
+use x509_certs::{read_certificate, read_crl};
 
 // The SHA-256 of octets, in hexadecimal.
 fn hash(alloc: Global, octets: &[u8]) -> Result<String, AllocError> {
@@ -160,5 +160,30 @@ fn certificates(rt: HostRuntime) -> Result<(), Fail> {
     assert_eq!(rt; read.serial(), [2].as_slice());
     assert_eq!(rt; read.not_after(), before + 1);
     assert!(rt; read.stamps_time() && !read.is_ca());
+    Ok(())
+}
+
+#[test]
+fn revocation_lists(rt: HostRuntime) -> Result<(), Fail> {
+    let mut world = World::new(rt.alloc(), 1);
+    let issuer = world.key(0)?;
+    let made = world.crl(0, 1_893_456_000, 4_102_444_800, Some((254, 1_900_000_000)))?;
+    let Ok(read) = read_crl(made.as_slice()) else {
+        assert!(rt; false);
+        return Ok(());
+    };
+    assert_eq!(rt; read.this_update(), 1_893_456_000);
+    assert_eq!(rt; read.next_update(), Some(4_102_444_800));
+    assert_eq!(rt; read.revoked(&[0, 255]), Some(1_900_000_000));
+    assert_eq!(rt; read.revoked(&[1, 0]), None);
+    assert!(rt; read.usable());
+    let verdict = verify(issuer.as_slice(), read.tbs(), read.signature());
+    assert_eq!(rt; verdict, Verdict::Good);
+    let made = world.crl(0, 1_893_456_000, 4_102_444_800, None)?;
+    let Ok(read) = read_crl(made.as_slice()) else {
+        assert!(rt; false);
+        return Ok(());
+    };
+    assert_eq!(rt; read.revoked(&[0, 255]), None);
     Ok(())
 }

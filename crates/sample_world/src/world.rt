@@ -1,18 +1,19 @@
 //! A world: its keys, how many signatures each has made, and its calls.
 
-ghost use Rattle.std.specs.Prelude.{◌≡◌, ◌≢◌, ◌↔◌, ◌⊎◌, ℕ, ◌+◌, ◌<◌, ◌≤◌, ◌≤ℤ◌, pos, neg_ℤ, IfOk, IfErr, OnOk, OnErr, length, replicate, slice_index, slice_set, slice_get, Some, Err};
+ghost use Rattle.std.specs.Prelude.{◌≡◌, ◌≢◌, ◌↔◌, ◌⊎◌, ℕ, IsTrue, IfSome, ◌+◌, ◌<◌, ◌≤◌, ◌≤ℤ◌, pos, neg_ℤ, IfOk, IfErr, OnOk, OnErr, length, replicate, slice_index, slice_set, slice_get, Some, Err};
 ghost use Rattle.lms_verify.specs.Hss.{verdict};
 ghost use Rattle.lms_verify.specs.Lms.{u32_at};
 ghost use Rattle.lms_verify.specs.declared.Verdict.TheVariants.{Good};
 ghost use Rattle.sample_world.specs.LmsSeed.{LmsSeed};
 ghost use Rattle.sample_world.specs.World.{Ledger, secret_of, id_of, seed_of, key_of, signature_of, two_signatures_of, xmss_key_of, xmss_signature_of, counted};
-ghost use Rattle.sample_world.specs.Objects.{signed_of, certificate_of};
+ghost use Rattle.sample_world.specs.Objects.{signed_of, certificate_of, list_of};
 ghost use Rattle.jiff_core.specs.Calendar.{IsBetween};
 ghost use Rattle.xmss_verify.specs.Xmss as xmss;
 ghost use Rattle.xmss_verify.specs.declared.Verdict.TheVariants as xmss_good;
 
 use crate::certificates::{Role, Terms, certificate_fields};
 use crate::der_parts::{element, signed_object};
+use crate::lists::list_fields;
 use crate::lms_trees::{LmsTrees, Turn};
 use crate::secrets::secret_of;
 use crate::xmss_trees::XmssTrees;
@@ -101,6 +102,23 @@ impl World {
         Ok(out)
     }
 
+    // Whether LMS key `key` has made all its signatures.
+    fn is_spent(&self, key: u32) -> bool
+        requires { key < 256 }
+        ensures { IsTrue result ↔ (32 ≤ slice_index self.now.used key) }
+    {
+        self.used[key as usize] >= 32
+    }
+
+    // Counts one signature more by LMS key `key`.
+    fn count(&mut self, key: u32)
+        requires key { key < 256 }
+        requires left { slice_index self.now.used key < 32 }
+        ensures { self.new ≡ counted self.old key }
+    {
+        self.used[key as usize] += 1;
+    }
+
     // The signature that LMS key `key` makes next, which isn't counted yet.
     fn next_signature(&mut self, key: u32, message: &[u8]) -> Result<Octs, WorldFault>
         requires key { key < 256 }
@@ -132,11 +150,11 @@ impl World {
         ensures spent { (result ≡ Err WorldFault.Spent) ↔ (32 ≤ slice_index self.old.used key) }
         ensures err { OnErr result (self.new ≡ self.old) }
     {
-        if self.used[key as usize] >= 32 {
+        if self.is_spent(key) {
             return Err(WorldFault::Spent);
         }
         let out = self.next_signature(key, message)?;
-        self.used[key as usize] += 1;
+        self.count(key);
         Ok(out)
     }
 
@@ -226,7 +244,7 @@ impl World {
         let to_be_signed = to_be_signed.as_slice();
         let signature = self.next_signature(key, to_be_signed)?;
         let object = signed_object(self.alloc, to_be_signed, signature.as_slice())?;
-        self.used[key as usize] += 1;
+        self.count(key);
         Ok(object)
     }
 
@@ -250,7 +268,7 @@ impl World {
         ensures spent { (result ≡ Err WorldFault.Spent) ↔ (32 ≤ slice_index self.old.used issuer) }
         ensures err { OnErr result (self.new ≡ self.old) }
     {
-        if self.used[issuer as usize] >= 32 {
+        if self.is_spent(issuer) {
             return Err(WorldFault::Spent);
         }
         let key = self.key(subject)?;
@@ -262,6 +280,34 @@ impl World {
             role,
         };
         let fields = certificate_fields(self.alloc, terms, key.as_slice())?;
+        self.signed(issuer, fields.as_slice())
+    }
+
+    /// A CRL of key `issuer`, of the time `from`, with its next at `next`. `revoked` is the key whose
+    /// certificate is listed, and the date of that. The times are seconds since 1970, of the years
+    /// 1950 to 9999.
+    pub fn crl(
+        &mut self,
+        issuer: u32,
+        from: i64,
+        next: i64,
+        revoked: Option<(u32, i64)>,
+    ) -> Result<Octs, WorldFault>
+        requires issuer { issuer < 256 }
+        requires from { IsBetween (neg_ℤ (pos 631_152_000)) (pos 253_402_300_799) from }
+        requires next { IsBetween (neg_ℤ (pos 631_152_000)) (pos 253_402_300_799) next }
+        requires key { IfSome revoked (λ r. r.0 < 256) }
+        requires date { IfSome revoked (λ r. IsBetween (neg_ℤ (pos 631_152_000)) (pos 253_402_300_799) r.1) }
+        ensures value { IfOk result (λ c. c ≡ list_of self.old issuer from next revoked) }
+        ensures counted { OnOk result (self.new ≡ counted self.old issuer) }
+
+        ensures spent { (result ≡ Err WorldFault.Spent) ↔ (32 ≤ slice_index self.old.used issuer) }
+        ensures err { OnErr result (self.new ≡ self.old) }
+    {
+        if self.is_spent(issuer) {
+            return Err(WorldFault::Spent);
+        }
+        let fields = list_fields(self.alloc, issuer, from, next, revoked)?;
         self.signed(issuer, fields.as_slice())
     }
 }
