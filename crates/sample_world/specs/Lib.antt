@@ -7,4 +7,5 @@ pub mod Moments
 pub mod Parts
 pub mod Certificates
 pub mod Lists
+pub mod Tokens
 pub mod Objects

@@ -11,6 +11,7 @@ mod nodes;
 mod secrets;
 #[cfg(test)]
 mod tests;
+mod tokens;
 mod world;
 mod xmss_trees;
 

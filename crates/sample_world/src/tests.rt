@@ -1,9 +1,12 @@
 use crate::{Role, World, WorldFault};
+use algorithms::{DigestKind, Hasher};
 use lms_verify::{Verdict, Why, verify};
 use sha2::{Digest, Sha256};
 use std::alloc::{AllocError, Global};
 use std::test::Fail;
+use tst_tokens::read_token;
 use x509_certs::{read_certificate, read_crl};
+use xa_io::Octets;
 
 // The SHA-256 of octets, in hexadecimal.
 fn hash(alloc: Global, octets: &[u8]) -> Result<String, AllocError> {
@@ -185,5 +188,37 @@ fn revocation_lists(rt: HostRuntime) -> Result<(), Fail> {
         return Ok(());
     };
     assert_eq!(rt; read.revoked(&[0, 255]), None);
+    Ok(())
+}
+
+// A certificate and a token are told to be whole by their readers.
+#[test]
+fn tokens(rt: HostRuntime) -> Result<(), Fail> {
+    let mut world = World::new(rt.alloc(), 1);
+    let certificate = world.certificate(0, 2, 0, 4_102_444_800, Role::Stamper)?;
+    let certificate = certificate.as_slice();
+    let kind = DigestKind::Sha512;
+    let mut hasher = Hasher::new(kind);
+    hasher.put(b"abc");
+    let covered = hasher.finish();
+    assert!(rt; read_certificate(certificate).is_ok());
+    let first = world.token(2, certificate, &covered, kind, 2_000_000_000)?;
+    let second = world.token(2, certificate, &covered, kind, 4_000_000_000)?;
+    assert!(rt; first.as_slice() != second.as_slice());
+    let Ok(read) = read_token(second.as_slice()) else {
+        assert!(rt; false);
+        return Ok(());
+    };
+    assert_eq!(rt; read.gen_time(), 4_000_000_000);
+    assert_eq!(rt; read.accuracy(), 0);
+    assert_eq!(rt; read.imprint_kind(), kind);
+    assert_eq!(rt; read.content_kind(), kind);
+    assert_eq!(rt; read.cert_hash_kind(), kind);
+    let Some(signer) = read.signer() else {
+        assert!(rt; false);
+        return Ok(());
+    };
+    assert_eq!(rt; signer.whole(), certificate);
+    assert!(rt; read.certificate(1).is_none());
     Ok(())
 }

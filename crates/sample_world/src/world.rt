@@ -6,7 +6,10 @@ ghost use Rattle.lms_verify.specs.Lms.{u32_at};
 ghost use Rattle.lms_verify.specs.declared.Verdict.TheVariants.{Good};
 ghost use Rattle.sample_world.specs.LmsSeed.{LmsSeed};
 ghost use Rattle.sample_world.specs.World.{Ledger, secret_of, id_of, seed_of, key_of, signature_of, two_signatures_of, xmss_key_of, xmss_signature_of, counted};
-ghost use Rattle.sample_world.specs.Objects.{signed_of, certificate_of, list_of};
+ghost use Rattle.sample_world.specs.Objects.{signed_of, certificate_of, list_of, token_with, token_of, token_counted};
+ghost use Rattle.algorithms.specs.Digests.{size_of};
+ghost use Rattle.der_values.specs.Fits.{IsObject};
+ghost use Rattle.x509_certs.specs.Layouts as layout;
 ghost use Rattle.jiff_core.specs.Calendar.{IsBetween};
 ghost use Rattle.xmss_verify.specs.Xmss as xmss;
 ghost use Rattle.xmss_verify.specs.declared.Verdict.TheVariants as xmss_good;
@@ -16,7 +19,9 @@ use crate::der_parts::{element, signed_object};
 use crate::lists::list_fields;
 use crate::lms_trees::{LmsTrees, Turn};
 use crate::secrets::secret_of;
+use crate::tokens::{attributes, signer_info, stamp_info, token};
 use crate::xmss_trees::XmssTrees;
+use algorithms::{Digest, DigestKind};
 use std::alloc::{AllocError, Global};
 use std::marker::Model;
 use xa_io::{Octs, OutOfMemory};
@@ -52,14 +57,15 @@ impl From<OutOfMemory> for WorldFault {
     }
 }
 
-/// A world of keys. Contracts see its secret and how many signatures each key has made; the trees
-/// that it keeps make no difference but in time.
+/// A world of keys. Contracts see its secret, how many signatures each key has made, and how many
+/// tokens were made; the trees that it keeps make no difference but in time.
 #[derive(Drop)]
 pub struct World {
     alloc: Global,
     secret: [u8; 32],
     used: [u8; 256],
     xmss_used: u32,
+    tokens: u32,
     lms_trees: LmsTrees,
     xmss_trees: XmssTrees,
 }
@@ -69,19 +75,20 @@ impl Model for World {
 
     ghost Value = { Ledger };
 
-    ghost view = { λ w. record { secret = w.secret; used = w.used; xmss_used = w.xmss_used } };
+    ghost view = { λ w. record { secret = w.secret; used = w.used; xmss_used = w.xmss_used; tokens = w.tokens } };
 }
 
 impl World {
     /// The world of a seed, whose keys have signed nothing.
     pub fn new(alloc: Global, seed: u64) -> World
-        ensures { result ≡ record { secret = secret_of seed; used = replicate 256 0; xmss_used = 0 } }
+        ensures { result ≡ record { secret = secret_of seed; used = replicate 256 0; xmss_used = 0; tokens = 0 } }
     {
         World {
             alloc,
             secret: secret_of(seed),
             used: [0; 256],
             xmss_used: 0,
+            tokens: 0,
             lms_trees: LmsTrees::new(alloc),
             xmss_trees: XmssTrees::new(alloc),
         }
@@ -309,5 +316,66 @@ impl World {
         }
         let fields = list_fields(self.alloc, issuer, from, next, revoked)?;
         self.signed(issuer, fields.as_slice())
+    }
+
+    // The token of this TSTInfo, whose signature isn't counted yet.
+    fn next_token(
+        &mut self,
+        signer: u32,
+        certificate: &[u8],
+        kind: DigestKind,
+        info: &[u8],
+    ) -> Result<Octs, WorldFault>
+        requires signer { signer < 256 }
+        requires left { slice_index self.now.used signer < 32 }
+        requires whole { IsObject layout.certificate certificate.now }
+        ensures value { IfOk result (λ t. t ≡ token_with self.old signer certificate.now kind info.now) }
+        ensures only_memory { IfErr result (λ fault. fault ≡ WorldFault.OutOfMemory) }
+        ensures same { self.new ≡ self.old }
+    {
+        let attributes = attributes(self.alloc, kind, info, certificate)?;
+        let signed = attributes.as_slice();
+        let set = element(self.alloc, 0x31, signed)?;
+        let signature = self.next_signature(signer, set.as_slice())?;
+        let signature = signature.as_slice();
+        let signer_info = signer_info(self.alloc, kind, certificate, signed, signature)?;
+        let token = token(self.alloc, kind, info, certificate, signer_info.as_slice())?;
+        Ok(token)
+    }
+
+    /// A time-stamp token over the digest `covered` by the key `signer`, whose certificate it holds.
+    /// Its three digests are of `kind`, its serial is the number of the world's tokens so far and 1,
+    /// and it has no accuracy. `gen_time` is in seconds since 1970, of the years 1950 to 9999.
+    pub fn token(
+        &mut self,
+        signer: u32,
+        certificate: &[u8],
+        covered: &Digest,
+        kind: DigestKind,
+        gen_time: i64,
+    ) -> Result<Octs, WorldFault>
+        requires signer { signer < 256 }
+        requires whole { IsObject layout.certificate certificate.now }
+        requires covered { length covered.now ≡ size_of kind }
+        requires gen_time { IsBetween (neg_ℤ (pos 631_152_000)) (pos 253_402_300_799) gen_time }
+        ensures value { IfOk result (λ t. t ≡ token_of self.old signer certificate.now covered.now kind gen_time) }
+        ensures counted { OnOk result (self.new ≡ token_counted self.old signer) }
+
+        ensures spent { (result ≡ Err WorldFault.Spent) ↔ (32 ≤ slice_index self.old.used signer) }
+        ensures err { OnErr result (self.new ≡ self.old) }
+    {
+        if self.is_spent(signer) {
+            return Err(WorldFault::Spent);
+        }
+        // Never so: 256 keys make 32 signatures each at most.
+        if self.tokens >= 8192 {
+            return Err(WorldFault::OutOfMemory);
+        }
+        let serial = self.tokens + 1;
+        let info = stamp_info(self.alloc, kind, covered.as_slice(), serial, gen_time)?;
+        let token = self.next_token(signer, certificate, kind, info.as_slice())?;
+        self.count(signer);
+        self.tokens = serial;
+        Ok(token)
     }
 }
