@@ -12,3 +12,4 @@ pub mod XmssHolds
 pub mod Trees
 pub mod WorldLaws
 pub mod XmssTrees
+pub mod Days

@@ -3,3 +3,9 @@ pub mod LmsSeed
 pub mod LmsKeys
 pub mod XmssKeys
 pub mod World
+pub mod Moments
+pub mod Parts
+pub mod Certificates
+pub mod Lists
+pub mod Tokens
+pub mod Objects

@@ -6,11 +6,12 @@ use Rattle.lms_verify.specs.LmOts.{u32str}
 use Rattle.sample_world.specs.LmsKeys.{hss_key, hss_signature, two_signatures}
 use Rattle.sample_world.specs.XmssKeys as xmss
 
--- the world's secret, and how many signatures each LMS key and the XMSS key have made
+-- the world's secret, how many signatures each LMS key and the XMSS key have made, and how many tokens were made
 pub record Ledger : Type 0 where
   pub secret : List ℕ
   pub used : List ℕ
   pub xmss_used : ℕ
+  pub tokens : ℕ
 
 -- a world in which LMS key j has made one signature more
 abbrev pub counted : Ledger → ℕ → Ledger

@@ -2,12 +2,18 @@
 //! signatures whose every octet follows from a seed. No key of it is secret.
 #![tactic(auto)]
 
+mod certificates;
+mod der_parts;
+mod lists;
 mod lms_trees;
+mod moments;
 mod nodes;
 mod secrets;
 #[cfg(test)]
 mod tests;
+mod tokens;
 mod world;
 mod xmss_trees;
 
+pub use certificates::Role;
 pub use world::{World, WorldFault};

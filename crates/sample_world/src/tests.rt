@@ -1,8 +1,12 @@
-use crate::{World, WorldFault};
+use crate::{Role, World, WorldFault};
+use algorithms::{DigestKind, Hasher};
 use lms_verify::{Verdict, Why, verify};
 use sha2::{Digest, Sha256};
 use std::alloc::{AllocError, Global};
 use std::test::Fail;
+use tst_tokens::read_token;
+use x509_certs::{read_certificate, read_crl};
+use xa_io::Octets;
 
 // The SHA-256 of octets, in hexadecimal.
 fn hash(alloc: Global, octets: &[u8]) -> Result<String, AllocError> {
@@ -126,5 +130,95 @@ fn xmss_signatures(rt: HostRuntime) -> Result<(), Fail> {
     let verdict = xmss_verify::verify(key, b"abc", &raised);
     assert!(rt; !matches!(verdict, xmss_verify::Verdict::Good));
     assert!(rt; verdict != shape);
+    Ok(())
+}
+
+// The serial is the number of the key and 1, in the fewest octets of which the first is below 128.
+#[test]
+fn certificates(rt: HostRuntime) -> Result<(), Fail> {
+    let mut world = World::new(rt.alloc(), 1);
+    let before = 2_524_607_999; // 2049-12-31T23:59:59Z
+    let made = world.certificate(0, 127, -631_152_000, before, Role::Authority)?;
+    let key = world.key(127)?;
+    let issuer = world.key(0)?;
+    let Ok(read) = read_certificate(made.as_slice()) else {
+        assert!(rt; false);
+        return Ok(());
+    };
+    assert_eq!(rt; read.serial(), [0, 128].as_slice());
+    assert_eq!(rt; read.issuer(), b"0\x0D1\x0B0\x09\x06\x03U\x04\x03\x0C\x02K0".as_slice());
+    assert_eq!(rt; read.subject(), b"0\x0F1\x0D0\x0B\x06\x03U\x04\x03\x0C\x04K127".as_slice());
+    assert_eq!(rt; read.not_before(), -631_152_000);
+    assert_eq!(rt; read.not_after(), before);
+    assert_eq!(rt; read.key(), key.as_slice());
+    assert!(rt; read.is_ca() && read.signs_certs() && read.signs_crls());
+    assert!(rt; !read.stamps_time() && !read.strange());
+    let verdict = verify(issuer.as_slice(), read.tbs(), read.signature());
+    assert_eq!(rt; verdict, Verdict::Good);
+    let made = world.certificate(0, 1, before, before + 1, Role::Stamper)?;
+    let Ok(read) = read_certificate(made.as_slice()) else {
+        assert!(rt; false);
+        return Ok(());
+    };
+    assert_eq!(rt; read.serial(), [2].as_slice());
+    assert_eq!(rt; read.not_after(), before + 1);
+    assert!(rt; read.stamps_time() && !read.is_ca());
+    Ok(())
+}
+
+#[test]
+fn revocation_lists(rt: HostRuntime) -> Result<(), Fail> {
+    let mut world = World::new(rt.alloc(), 1);
+    let issuer = world.key(0)?;
+    let made = world.crl(0, 1_893_456_000, 4_102_444_800, Some((254, 1_900_000_000)))?;
+    let Ok(read) = read_crl(made.as_slice()) else {
+        assert!(rt; false);
+        return Ok(());
+    };
+    assert_eq!(rt; read.this_update(), 1_893_456_000);
+    assert_eq!(rt; read.next_update(), Some(4_102_444_800));
+    assert_eq!(rt; read.revoked(&[0, 255]), Some(1_900_000_000));
+    assert_eq!(rt; read.revoked(&[1, 0]), None);
+    assert!(rt; read.usable());
+    let verdict = verify(issuer.as_slice(), read.tbs(), read.signature());
+    assert_eq!(rt; verdict, Verdict::Good);
+    let made = world.crl(0, 1_893_456_000, 4_102_444_800, None)?;
+    let Ok(read) = read_crl(made.as_slice()) else {
+        assert!(rt; false);
+        return Ok(());
+    };
+    assert_eq!(rt; read.revoked(&[0, 255]), None);
+    Ok(())
+}
+
+// A certificate and a token are told to be whole by their readers.
+#[test]
+fn tokens(rt: HostRuntime) -> Result<(), Fail> {
+    let mut world = World::new(rt.alloc(), 1);
+    let certificate = world.certificate(0, 2, 0, 4_102_444_800, Role::Stamper)?;
+    let certificate = certificate.as_slice();
+    let kind = DigestKind::Sha512;
+    let mut hasher = Hasher::new(kind);
+    hasher.put(b"abc");
+    let covered = hasher.finish();
+    assert!(rt; read_certificate(certificate).is_ok());
+    let first = world.token(2, certificate, &covered, kind, 2_000_000_000)?;
+    let second = world.token(2, certificate, &covered, kind, 4_000_000_000)?;
+    assert!(rt; first.as_slice() != second.as_slice());
+    let Ok(read) = read_token(second.as_slice()) else {
+        assert!(rt; false);
+        return Ok(());
+    };
+    assert_eq!(rt; read.gen_time(), 4_000_000_000);
+    assert_eq!(rt; read.accuracy(), 0);
+    assert_eq!(rt; read.imprint_kind(), kind);
+    assert_eq!(rt; read.content_kind(), kind);
+    assert_eq!(rt; read.cert_hash_kind(), kind);
+    let Some(signer) = read.signer() else {
+        assert!(rt; false);
+        return Ok(());
+    };
+    assert_eq!(rt; signer.whole(), certificate);
+    assert!(rt; read.certificate(1).is_none());
     Ok(())
 }
