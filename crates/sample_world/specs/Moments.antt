@@ -29,8 +29,12 @@ moment_in day second =
     let year = year_below 10_000 day in
     let month = month_up_to 12 year day in
     record {
-      year = year; month = month; day = day - day_count (pos year) month 1 + 1;
-      hour = second / 3600; minute = second / 60 % 60; second = second % 60
+      year = year;
+      month = month;
+      day = day - day_count (pos year) month 1 + 1;
+      hour = second / 3600;
+      minute = second / 60 % 60;
+      second = second % 60;
     }
 
 -- the date and the time of day

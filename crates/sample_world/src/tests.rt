@@ -146,8 +146,14 @@ fn certificates(rt: HostRuntime) -> Result<(), Fail> {
         return Ok(());
     };
     assert_eq!(rt; read.serial(), [0, 128].as_slice());
-    assert_eq!(rt; read.issuer(), b"0\x0D1\x0B0\x09\x06\x03U\x04\x03\x0C\x02K0".as_slice());
-    assert_eq!(rt; read.subject(), b"0\x0F1\x0D0\x0B\x06\x03U\x04\x03\x0C\x04K127".as_slice());
+    assert_eq!(rt;
+        read.issuer(),
+        b"0\x0D1\x0B0\x09\x06\x03U\x04\x03\x0C\x02K0".as_slice()
+    );
+    assert_eq!(rt;
+        read.subject(),
+        b"0\x0F1\x0D0\x0B\x06\x03U\x04\x03\x0C\x04K127".as_slice()
+    );
     assert_eq!(rt; read.not_before(), -631_152_000);
     assert_eq!(rt; read.not_after(), before);
     assert_eq!(rt; read.key(), key.as_slice());

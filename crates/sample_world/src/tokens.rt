@@ -29,11 +29,7 @@ fn digest(kind: DigestKind, message: &[u8]) -> Digest
 
 // Appends the AlgorithmIdentifier of a digest.
 #[tactic(auto, unfolding(crate::specs::Tokens::digest_algorithm))]
-fn put_digest_algorithm(
-    alloc: Global,
-    out: &mut Octs,
-    kind: DigestKind,
-) -> Result<(), OutOfMemory>
+fn put_digest_algorithm(alloc: Global, out: &mut Octs, kind: DigestKind) -> Result<(), OutOfMemory>
     ensures { OnOk result (out.new ≡ out.old ++ digest_algorithm kind) }
 {
     let oid = element(alloc, 0x06, kind.oid())?;

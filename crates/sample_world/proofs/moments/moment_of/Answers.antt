@@ -1,4 +1,4 @@
-use Rattle.std.proofs.Common.{◌≡◌, sym, ◌∙◌, ap, ℕ, ◌<◌, ◌^◌, ◌/◌, ℤ, pos, ◌+ℤ◌, ◌-ℤ◌, unsigned_abs, arith, FitsSigned, w16, w64}
+use Rattle.std.proofs.Common.{◌≡◌, sym, ℕ, ◌<◌, ◌^◌, ◌/◌, ℤ, pos, ◌+ℤ◌, ◌-ℤ◌, unsigned_abs, arith, FitsSigned, w16, w64}
 use Rattle.std.proofs.lemmas.Int.{to_z-of_z, to_z_pos}
 use Rattle.jiff_core.proofs.SignedLemmas.{signed_arith}
 use Rattle.sample_world.proofs.Days.{moment_found, not_negative}
