@@ -11,6 +11,8 @@ mod nodes;
 mod secrets;
 #[cfg(test)]
 mod tests;
+#[cfg(test)]
+mod token_tests;
 mod tokens;
 mod world;
 mod xmss_trees;
