@@ -1,7 +1,7 @@
 -- The values of a list's items, one after the other, as a loop reads them.
-use Rattle.std.proofs.Common.{◌≡◌, ℕ, ◌+◌, ◌≤◌, ◌<◌, length, drop, get_or, List, [], ◌∷◌, ◌++◌, Option, Some, None, option_map, refl, sym, ap, ◌∙◌, append_assoc, arith}
+use Rattle.std.proofs.Common.{◌≡◌, ℕ, ◌+◌, ◌≤◌, ◌<◌, length, drop, get_or, List, [], ◌∷◌, ◌++◌, Option, Some, None, refl, sym, ap, ◌∙◌, append_assoc}
 use Rattle.std.proofs.lemmas.List.{append-nil, drop_all}
-use Rattle.toml.specs.Data.{Data, Items}
+use Rattle.toml.specs.Data.{Data}
 use Rattle.toml.specs.View.{view, items_view}
 use Rattle.toml.proofs.Views.{items_view-drop}
 use Rattle.toml.specs.declared.value.Value.{Value}
@@ -27,7 +27,7 @@ pub goes_on : {A : Type 0} (f : Data → Option A) (front : List A) (vs : List V
     → with_front front (each f (items_view (drop i vs))) ≡ total → with_front (front ++ a ∷ []) (each f (items_view (drop (i + 1) vs))) ≡ total
 goes_on f front vs i d a total lt h so_far =
     let one : with_front front (each f (items_view (drop i vs))) ≡ with_front (front ++ a ∷ []) (each f (items_view (drop (i + 1) vs))) =
-        rw (items_view-drop vs i d lt, h) (regroup front a (each f (items_view (drop (i + 1) vs)))) in
+    rw (items_view-drop vs i d lt, h) (regroup front a (each f (items_view (drop (i + 1) vs)))) in
     sym one ∙ so_far
 
 pub stops : {A : Type 0} (e : FieldError) (f : Data → Option A) (front : List A) (vs : List Value) (i : ℕ) (d : Value) (total : Option (List A)) → i < length vs → IsRefused e (f (view (get_or vs i d)))

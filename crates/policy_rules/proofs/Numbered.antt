@@ -1,5 +1,5 @@
 -- Anchors, one after the other, as a loop reads them.
-use Rattle.std.proofs.Common.{◌≡◌, ℕ, ◌+◌, ◌≤◌, ◌<◌, length, drop, get_or, map, subst, List, [], ◌∷◌, ◌++◌, Result, Ok, Err, Bor, refl, sym, ap, ◌∙◌, append_assoc, arith}
+use Rattle.std.proofs.Common.{◌≡◌, ℕ, ◌+◌, ◌≤◌, ◌<◌, length, drop, get_or, map, subst, List, [], ◌∷◌, ◌++◌, Result, Ok, Err, Bor, refl, sym, ap, ◌∙◌, append_assoc}
 use Rattle.std.proofs.lemmas.List.{append-nil, drop_all, drop_more}
 use Rattle.policy_rules.specs.declared.fault.PolicyFault.{PolicyFault}
 use Rattle.policy_rules.specs.declared.fault.PolicyFault.TheVariants as told
@@ -31,7 +31,7 @@ pub goes_on : (front : List Bytes) (texts : List (Bor Bytes)) (i : ℕ) (d : Bor
     → with_front front (anchors_from number (left i texts)) ≡ total → with_front (front ++ a ∷ []) (anchors_from (number + 1) (left (i + 1) texts)) ≡ total
 goes_on front texts i d a number total lt h so_far =
     let one : with_front front (anchors_from number (left i texts)) ≡ with_front (front ++ a ∷ []) (anchors_from (number + 1) (left (i + 1) texts)) =
-        rw (drop_more texts i d lt, h) (regroup front a (anchors_from (number + 1) (left (i + 1) texts))) in
+    rw (drop_more texts i d lt, h) (regroup front a (anchors_from (number + 1) (left (i + 1) texts))) in
     sym one ∙ so_far
 
 told_again : (e : PolicyFault) (front : List Bytes) (read : Result Bytes Fault) (more : Bytes → Result (List Bytes) Fault) → IsTold e read → IsTold e (with_front front (read >>= more))
@@ -49,7 +49,7 @@ pub stops : (e : PolicyFault) (front : List Bytes) (texts : List (Bor Bytes)) (i
 stops e front texts i d number total lt h so_far =
     let t = told_again e front (of_number number (anchor_of (get_or texts i d).now)) (λ bytes. anchors_from (number + 1) (left (i + 1) texts) >>= λ rest. Ok (bytes ∷ rest)) h in
     let one : with_front front (of_number number (anchor_of (get_or texts i d).now) >>= (λ bytes. anchors_from (number + 1) (left (i + 1) texts) >>= λ rest. Ok (bytes ∷ rest))) ≡ with_front front (anchors_from number (left i texts)) =
-        rw (drop_more texts i d lt) refl in
+    rw (drop_more texts i d lt) refl in
     retold e _ _ (one ∙ so_far) t
 
 pub is_done : (front : List Bytes) (texts : List (Bor Bytes)) (i number : ℕ) (total : Result (List Bytes) Fault) → length texts ≤ i

@@ -1,7 +1,6 @@
 -- What the fields of a policy mean, over the tables and lists that TOML reads.
-use Rattle.std.specs.Prelude.{◌≡◌, ◌==◌, ℕ, suc, ℤ, pos, Bool, true, false, ◌&&◌, ◌||◌, List, [], ◌∷◌, length, map, nat_le, codes, Option, Some, None, is_none, option_map, if◌then◌else◌}
+use Rattle.std.specs.Prelude.{◌==◌, ℕ, ℤ, pos, Bool, ◌&&◌, ◌||◌, List, [], ◌∷◌, length, map, nat_le, codes, Option, Some, None, is_none, option_map, if◌then◌else◌}
 use Rattle.std.specs.Option.{option_and_then}
-use Rattle.std.specs.List.{list_any}
 use Rattle.std.specs.Str.{bytes_eq}
 use Rattle.toml.specs.Data.{Data, Members, no_members, member, Items, no_items, item, get_member, as_integer, as_str, as_array, as_table}
 use Rattle.algorithms.specs.declared.signature_kinds.SignatureKind.{SignatureKind}

@@ -1,5 +1,5 @@
 -- The policy of a text, or the first fault.
-use Rattle.std.specs.Prelude.{◌≡◌, ◌+◌, ℕ, suc, List, [], ◌∷◌, codes, Option, Some, None, Result, Ok, Err, is_ok, if◌then◌else◌}
+use Rattle.std.specs.Prelude.{◌+◌, ℕ, List, [], ◌∷◌, codes, Option, Some, None, Result, Ok, Err, is_ok, if◌then◌else◌}
 use Rattle.std.specs.Option.{option_and_then}
 use Rattle.std.specs.Str.{is_utf8}
 use Rattle.toml.specs.Data.{Members}
@@ -11,7 +11,7 @@ use Rattle.x509_certs.specs.Layouts as layout
 use Rattle.policy_rules.specs.declared.fields.Place.TheVariants.{Whole}
 use Rattle.policy_rules.specs.Faults.{Fault, toml, field, anchor, of_field}
 use Rattle.policy_rules.specs.Fields.{version_of, anchor_texts, kind_rules, digest_rules, first_unknown}
-use Rattle.policy_rules.specs.Rules.{Rules, KindRule, DigestRule}
+use Rattle.policy_rules.specs.Rules.{Rules}
 
 infixl 10 ◌>>=◌
 abbrev pub ◌>>=◌ : {A B : Type 0} → Result A Fault → (A → Result B Fault) → Result B Fault

@@ -86,4 +86,3 @@ pub(crate) fn of_field(alloc: Global, name: &str, error: FieldError) -> PolicyFa
         FieldError::OutOfMemory => PolicyFault::OutOfMemory,
     }
 }
-

@@ -1,4 +1,4 @@
-use Rattle.std.proofs.Common.{◌≡◌, ◌+◌, sym, ◌∙◌, ap, drop, map, string_bytes, List, ℕ}
+use Rattle.std.proofs.Common.{◌+◌, sym, ◌∙◌, ap, drop, map, string_bytes, List, ℕ}
 use Rattle.std.proofs.lemmas.Result.{err_from_is_err_and}
 use Rattle.policy_rules.specs.Rules.{are_new, uris_of}
 use Rattle.policy_rules.specs.View.{kind_view}

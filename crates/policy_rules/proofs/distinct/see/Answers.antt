@@ -1,6 +1,6 @@
-use Rattle.std.proofs.Common.{◌≡◌, sym, ◌∙◌, ap, not, ◌||◌, List, ℕ}
+use Rattle.std.proofs.Common.{◌∙◌, ap, not, ◌||◌}
 use Rattle.std.specs.Str.{bytes_eq}
-use Rattle.policy_rules.proofs.SeenTexts.{found, put, has, order}
+use Rattle.policy_rules.proofs.SeenTexts.{found, put, has}
 use Rattle.policy_rules.proofs.distinct.see.Goals as goal
 
 pub returns-clause-new : goal.returns-clause-new

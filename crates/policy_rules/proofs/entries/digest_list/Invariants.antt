@@ -1,4 +1,4 @@
-use Rattle.std.proofs.Common.{◌≡◌, drop, map, string_bytes}
+use Rattle.std.proofs.Common.{◌≡◌, drop, map}
 use Rattle.toml.specs.View.{items_view}
 use Rattle.policy_rules.specs.Fields.{digest_rule_in}
 use Rattle.policy_rules.specs.View.{digest_view}

@@ -1,4 +1,4 @@
-use Rattle.std.proofs.Common.{◌≡◌, refl, sym, subst, to_z, of_z, w64, get_or, None}
+use Rattle.std.proofs.Common.{◌≡◌, refl, subst, to_z, of_z, w64, get_or, None}
 use Rattle.std.proofs.lemmas.Int.{to_z-of_z}
 use Rattle.algorithms.specs.declared.digest_kinds.DigestKind.TheVariants.{Sha256}
 use Rattle.policy_rules.specs.declared.entries.DigestEntry.{DigestEntry}

@@ -1,4 +1,4 @@
-use Rattle.std.proofs.Common.{◌≡◌, refl, sym, subst, to_z, of_z, w64}
+use Rattle.std.proofs.Common.{◌≡◌, refl, subst, to_z, of_z, w64}
 use Rattle.std.proofs.lemmas.Int.{to_z-of_z}
 use Rattle.policy_rules.specs.Rules.{IsKindRule}
 use Rattle.policy_rules.specs.View.{kind_view}
