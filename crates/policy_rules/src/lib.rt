@@ -14,3 +14,6 @@ mod reading;
 pub use fault::PolicyFault;
 pub use policy::Policy;
 pub use reading::read_policy;
+
+#[cfg(test)]
+mod tests;

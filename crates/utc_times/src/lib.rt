@@ -1,4 +1,4 @@
-//! Times.
+//! Times as texts `YYYY-MM-DDThh:mm:ssZ`, a profile of RFC 3339: UTC, no fraction, seconds to 59, the years 0000 to 9999 of the Gregorian calendar.
 #![tactic(auto)]
 
 ghost use Rattle.std.specs.Prelude.{◌≡◌, ◌≤◌, ◌<◌, ◌+◌, ◌*◌, ℕ, length, IsTrue, Some, None, IfSome, IsSome, ◌↔◌, ℤ, pos, ◌+ℤ◌, ◌*ℤ◌};
