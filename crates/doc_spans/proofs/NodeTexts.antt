@@ -86,57 +86,6 @@ pub plain_node : (bytes : List ℕ) (place : Place) → IsPlain bytes → (seen 
 plain_node bytes place h seen =
     plain_head seen.piece.item seen.node seen.piece.text seen.begun (plain_item (drop place.start bytes) (seen.piece, drop place.first_end bytes) (plain_drop place.start bytes h) seen.read)
 
-text_of_piece : (item : Item) (text : List ℕ) → IsPlainPiece item text → IsPartOfText item → text_added_by item ≡ text
-text_of_piece declaration text h t = absurd h
-text_of_piece (start_tag name attributes) text h t = absurd t
-text_of_piece (empty_tag name attributes) text h t = absurd t
-text_of_piece (end_tag name) text h t = absurd t
-text_of_piece (character c) text h t = sym h
-text_of_piece (reference c) text h t = absurd h
-text_of_piece (cdata cs) text h t = absurd h
-text_of_piece (comment cs) text h t = absurd h
-text_of_piece (instruction target content) text h t = absurd h
-
--- the characters of plain items are their bytes
-plain_texts : (bytes : List ℕ) (start end : ℕ) (pieces : List Piece) → IsPlain bytes → StandFrom bytes start end pieces → AreTexts pieces
-    → (start ≤ end) × (text_added pieces ++ drop end bytes ≡ drop start bytes)
-plain_texts bytes start end [] h at t = (omega (arith, at), ap (λ n. drop n bytes) (sym at))
-plain_texts bytes start end (piece ∷ pieces) h at t =
-    let later = plain_texts bytes (start + length piece.text) end pieces h at.1 t.1 in
-    let is : text_added_by piece.item ≡ piece.text =
-    text_of_piece piece.item piece.text (plain_item (drop start bytes) (piece, drop (start + length piece.text) bytes) (plain_drop start bytes h) at.0) t.0 in (
-      (let l = later.0 in omega (arith, l)),
-      append_assoc (text_added_by piece.item) (text_added pieces) (drop end bytes)
-          ∙ ap (λ xs. text_added_by piece.item ++ xs) later.1
-          ∙ ap (λ xs. xs ++ drop (start + length piece.text) bytes) is
-          ∙ piece_joins (drop start bytes) (piece, drop (start + length piece.text) bytes) at.0,
-    )
-
-take_front : (xs ys zs : List ℕ) (n : ℕ) → xs ++ ys ≡ zs → n ≡ length xs → xs ≡ take n zs
-take_front xs ys zs n e l = sym (take-append_seam xs ys) ∙ (λ i. take (sym l i) (e i))
-
--- where the text of a plain document's node stands
-pub record TextStands (bytes : List ℕ) (place : Place) (text : List ℕ) : Type 0 where
-  pub order : place.start ≤ place.end
-  pub within : place.end ≤ length bytes
-  pub is : text ≡ take (place.end - place.start) (drop place.start bytes)
-
-pub plain_text : (bytes : List ℕ) (place : Place) (cs : List ℕ) → IsPlain bytes → Stands bytes place → node_at (document_of bytes) place.path ≡ Some (Text cs) → TextStands bytes place cs
-plain_text bytes place cs h stands e =
-    let text = stands.0.text cs e in
-    let plain = plain_texts bytes place.start place.end text.0 h text.1 text.2 in
-    let joined : cs ++ drop place.end bytes ≡ drop place.start bytes = ap (λ x. x ++ drop place.end bytes) (sym text.3) ∙ plain.1 in
-    let l : length (cs ++ drop place.end bytes) ≡ length (drop place.start bytes) = ap length joined in
-    let parts = length-append cs (drop place.end bytes) in
-    let a = length-drop place.end bytes in
-    let b = length-drop place.start bytes in
-    let within = stands.1 in
-    let order = plain.0 in record {
-      order = order;
-      within = within;
-      is = take_front cs (drop place.end bytes) (drop place.start bytes) (place.end - place.start) joined (omega (arith, l, parts, a, b, within, order));
-    }
-
 -- For the calls.
 
 texts_set : IsSet (List ℕ)
