@@ -1,24 +1,20 @@
 -- What the calls on a document need of its whole tree.
-use Rattle.std.proofs.Common.{◌≡◌, ℕ, zero, suc, ◌+◌, ◌-◌, ◌<◌, ◌≤◌, Bool, true, false, ◌&&◌, List, [], ◌∷◌, ◌++◌, length, take, drop, Option, Some, None, refl, sym, ◌∙◌, ap, subst, arith, length-append, length-drop, nat_eq, cond, not}
+use Rattle.std.proofs.Common.{◌≡◌, ℕ, ◌+◌, ◌-◌, ◌<◌, ◌≤◌, true, List, [], ◌∷◌, ◌++◌, length, drop, Some, None, refl, sym, ◌∙◌, ap, subst, arith, length-append, length-drop}
 use Rattle.std.proofs.Math.Logic.{∥∥₁_elim, ∥∥₁_map}
 use Rattle.std.proofs.Math.Nat.{ℕ_set}
 use Rattle.std.proofs.Math.Bool.{Bool-set}
 use Rattle.std.proofs.Props.{props}
-use Rattle.std.proofs.lemmas.Bool.Decides.{eqb_tells}
 use Rattle.std.proofs.lemmas.Option.{none-some}
-use Rattle.std.proofs.lemmas.Str.{chars-nil, chars-IsAscii, IsAscii-take, IsAscii-drop, IsUtf8-from_ascii}
-use Rattle.std.specs.Prelude.{map, slice_get, option_map, option_and_then, is_some, unwrap_or, IsTrue}
+use Rattle.std.proofs.lemmas.Str.{chars-nil}
+use Rattle.std.specs.Prelude.{option_map, is_some}
 use Rattle.std.specs.Option.{option_map_or}
-use Rattle.std.specs.Str.{chars, IsAscii, IsUtf8}
-use Rattle.std.specs.List.{All}
-use Rattle.document_model.specs.Characters.{span, with_line_ends}
-use Rattle.document_model.specs.Names.{Name, name_of, joined_name, is_plain_name, is_not_colon, spelled, spelled_with}
+use Rattle.std.specs.Str.{chars}
+use Rattle.document_model.specs.Characters.{with_line_ends}
 use Rattle.document_model.specs.Items.{Attribute, Item, Piece, piece_at}
-use Rattle.document_model.specs.Tree.{Node, Nodes, Path, Element, Text, Comment, Instruction, no_nodes, node_at, count}
+use Rattle.document_model.specs.Tree.{Node, Path, Element, Text, Comment, Instruction, node_at, count}
 use Rattle.document_model.specs.Documents.{document_of}
 use Rattle.document_model.specs.Places.{Place}
-use Rattle.document_model.proofs.Joins.{piece_joins, by_test}
-use Rattle.xml_items.specs.Found.{name_in, IsNameText}
+use Rattle.document_model.proofs.Joins.{piece_joins}
 use Rattle.xml_items.specs.Items.{item_in, IsRead}
 use Rattle.xml_items.proofs.NameTexts.{spells}
 use Rattle.xml_items.specs.Scanned.{piece_in}
@@ -31,20 +27,18 @@ use Rattle.doc_spans.specs.declared.rows.Row.{Row}
 use Rattle.doc_spans.specs.declared.rows.Kind.TheVariants as kinds
 use Rattle.doc_spans.specs.Below.{paths_below}
 use Rattle.doc_spans.specs.Seen.{Has, NameBelow, node_in, nodes_at, name_of_node, text_of_node, attributes_of_node, shown_in, document_in}
-use Rattle.doc_spans.specs.Shown.{Shown, IsShownOf, ShowsRow, path_at, kind_of, children_of, children_from, shown_of}
+use Rattle.doc_spans.specs.Shown.{Shown, IsShownOf, ShowsRow, path_at, kind_of, children_of}
 use Rattle.doc_spans.specs.Texts.{StandFrom, AreTexts, text_added, HoldText, text_between}
-use Rattle.doc_spans.specs.View.{Each, under, paths_of, parents_of, places_of_rows, place_of_row, IsTree}
+use Rattle.doc_spans.specs.View.{place_of_row}
 use Rattle.doc_spans.specs.Written.{written_name, written_text, written_attributes}
-use Rattle.doc_spans.proofs.Builds.{row_paths}
 use Rattle.doc_spans.proofs.ChildNodes.{children_within, count_is, get_there, path_at_place}
 use Rattle.doc_spans.proofs.Each.{some_is, each_weaker}
-use Rattle.doc_spans.proofs.Named.{head_of, paths}
+use Rattle.doc_spans.proofs.Named.{head_of}
 use Rattle.doc_spans.proofs.ItemRuns.{text_is}
 use Rattle.doc_spans.proofs.Nodes.{IsSeen}
 use Rattle.doc_spans.proofs.NodeTexts.{Stands, stands_at, from_seen, all_of_each}
 use Rattle.doc_spans.proofs.Numbered.{AreNumbered}
 use Rattle.doc_spans.proofs.Run.{piece_has}
-use Rattle.doc_spans.proofs.Shows.{IsNumber}
 use Rattle.doc_spans.proofs.Stays.{head}
 
 -- A text.

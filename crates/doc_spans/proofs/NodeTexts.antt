@@ -1,30 +1,25 @@
 -- What the bytes of a node spell, as far as the calls on a document need it.
-use Rattle.std.proofs.Common.{◌≡◌, ℕ, zero, suc, ◌+◌, ◌-◌, ◌<◌, ◌≤◌, List, [], ◌∷◌, ◌++◌, length, take, drop, Option, Some, None, refl, sym, ◌∙◌, ap, subst, arith, append_assoc, length-append, length-drop}
+use Rattle.std.proofs.Common.{◌≡◌, ℕ, zero, suc, ◌≤◌, List, [], ◌∷◌, ◌++◌, length, drop, Some, sym, ap, subst, arith, length-append}
 use Rattle.std.proofs.Math.Logic.{∥∥₁_elim}
-use Rattle.std.proofs.Math.Seq.{take-append_seam}
 use Rattle.std.proofs.Props.{props}
 use Rattle.std.proofs.lemmas.Option.{none-some}
 use Rattle.std.proofs.lemmas.List.Sorted.{IsPermutation-sym, All-permutation}
-use Rattle.std.specs.Prelude.{option_map, slice_get, slice_index_or, flat_map}
+use Rattle.std.specs.Prelude.{slice_get, flat_map}
 use Rattle.std.specs.List.{All}
-use Rattle.std.specs.Option.{option_map_or}
-use Rattle.document_model.specs.Names.{spelled}
-use Rattle.document_model.specs.Items.{Item, Piece, piece_at, declaration, start_tag, empty_tag, end_tag, character, reference, cdata, comment, instruction}
-use Rattle.document_model.specs.Tree.{Node, Nodes, Path, Element, Text, Comment, Instruction, no_nodes, node_at}
-use Rattle.document_model.specs.Documents.{run, limits, document_of}
+use Rattle.document_model.specs.Items.{Item, declaration, start_tag, empty_tag, end_tag, character, reference, cdata, comment, instruction}
+use Rattle.document_model.specs.Tree.{Node, Element, Text, Comment, Instruction, no_nodes}
+use Rattle.document_model.specs.Documents.{run, limits}
 use Rattle.document_model.specs.Places.{Place, places_of}
 use Rattle.document_model.specs.Plain.{IsPlain, IsPlainPiece, IsPlainNode}
-use Rattle.document_model.proofs.Joins.{piece_joins, run_joins}
+use Rattle.document_model.proofs.Joins.{run_joins}
 use Rattle.document_model.proofs.PlainItems.{plain_drop, plain_item}
-use Rattle.doc_spans.specs.Marks.{size, items_of, places_after}
-use Rattle.doc_spans.specs.Shown.{Shown, IsShownOf, path_at}
-use Rattle.doc_spans.specs.Texts.{text_added_by, text_added, IsPartOfText, AreTexts, StandFrom}
-use Rattle.doc_spans.specs.Seen.{text_of_node}
+use Rattle.doc_spans.specs.Marks.{size, places_after}
+use Rattle.doc_spans.specs.Shown.{Shown, IsShownOf}
 use Rattle.doc_spans.specs.View.{Each}
 use Rattle.doc_spans.proofs.Each.{each_get, each_weaker, some_is}
 use Rattle.doc_spans.proofs.Marks.{EndsBy, ended, onto}
 use Rattle.doc_spans.proofs.Named.{head_of}
-use Rattle.doc_spans.proofs.Nodes.{SeenIn, IsSeen, places_seen}
+use Rattle.doc_spans.proofs.Nodes.{IsSeen, places_seen}
 use Rattle.doc_spans.proofs.Over.{size_onto}
 use Rattle.doc_spans.proofs.Run.{places_of_run}
 use Rattle.doc_spans.proofs.Stays.{head}

@@ -1,5 +1,5 @@
 -- What a clause sees of a document: its bytes, the tree that they spell, and which node each number names.
-use Rattle.std.specs.Prelude.{◌≡◌, ℕ, zero, suc, ◌-◌, ◌<◌, List, [], ◌∷◌, ◌++◌, length, Option, None, Some, slice_get, map}
+use Rattle.std.specs.Prelude.{◌≡◌, ℕ, ◌-◌, ◌<◌, List, [], ◌∷◌, length, Option, slice_get, map}
 use Rattle.std.specs.List.{All}
 use Rattle.std.specs.Option.{option_map_or}
 use Rattle.doc_spans.specs.declared.documents.Doc.{Doc}

@@ -1,7 +1,7 @@
 -- The characters of a text node: those of the items that its place spans.
 use Rattle.std.specs.Prelude.{◌≡◌, ℕ, zero, suc, ◌+◌, ◌-◌, ◌<◌, ◌≤◌, ◌==◌, ◌||◌, not, Bool, true, get_or, List, [], ◌∷◌, ◌++◌, length, drop, Some, if◌then◌else◌}
 use Rattle.std.specs.Option.{option_map_or}
-use Rattle.document_model.specs.Items.{Item, Piece, piece_at, declaration, start_tag, empty_tag, end_tag, character, reference, cdata, comment, instruction}
+use Rattle.document_model.specs.Items.{Item, Piece, piece_at, character, reference, cdata}
 use Rattle.document_model.specs.Tree.{Nodes, Text, node_at}
 use Rattle.document_model.specs.Places.{Place}
 

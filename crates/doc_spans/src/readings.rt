@@ -39,7 +39,10 @@ impl<'a> Front<'a> {
         let (run, behind) = literal_front(self.text, self.reading);
         let reading = self.reading;
         if !run.is_empty() {
-            let front = Front { text: behind, reading };
+            let front = Front {
+                text: behind,
+                reading,
+            };
             return Some((Piece::Run(run), front));
         }
         match reading {
@@ -96,13 +99,7 @@ fn behind_line_feed(behind: &str) -> &str
     ensures shorter { length result.now ≤ length behind.now }
 {
     match first(behind) {
-        Some((c, rest)) => {
-            if c == '\n' {
-                rest
-            } else {
-                behind
-            }
-        }
+        Some((c, rest)) => { if c == '\n' { rest } else { behind } }
         None => behind,
     }
 }

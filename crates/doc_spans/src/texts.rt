@@ -29,7 +29,6 @@ pub struct Pieces<'a> {
 }
 
 impl<'a> Pieces<'a> {
-
     /// The characters of a text as they stand, without decoding.
     pub fn of(text: &'a str) -> Pieces<'a>
         ensures { characters_left result ≡ chars text.now }

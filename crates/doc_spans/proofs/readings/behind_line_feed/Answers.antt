@@ -1,5 +1,4 @@
-use Rattle.std.proofs.Common.{◌≡◌, ◌∷◌, [], List, ℕ, refl, ap, sym, ◌∙◌, subst}
-use Rattle.std.specs.Str.{chars}
+use Rattle.std.proofs.Common.{◌≡◌, ◌∷◌, List, ℕ, refl, sym, subst}
 use Rattle.document_model.specs.Characters.{with_line_ends}
 use Rattle.xml_items.proofs.AsciiTexts.{chars_empty}
 use Rattle.doc_spans.proofs.readings.behind_line_feed.Goals as goal

@@ -1,11 +1,9 @@
-use Rattle.std.proofs.Common.{◌≡◌, ◌-◌, ◌<◌, ◌∷◌, ◌∙◌, [], ap, sym, length, unwrap_or, arith}
+use Rattle.std.proofs.Common.{◌-◌, ◌∷◌, ◌∙◌, [], ap, sym, length, unwrap_or, arith}
 use Rattle.std.specs.Str.{chars}
 use Rattle.document_model.specs.Items.{Attribute}
-use Rattle.xml_items.specs.Found.{read_attributes, name_in, value_in}
+use Rattle.xml_items.specs.Found.{read_attributes, name_in}
 use Rattle.xml_items.specs.Pairs.{pair_in}
-use Rattle.xml_items.proofs.Attributes.{Front, row_front}
-use Rattle.doc_spans.specs.AttributesLeft.{attributes_left}
-use Rattle.doc_spans.specs.Pieces.{characters_left}
+use Rattle.xml_items.proofs.Attributes.{row_front}
 use Rattle.doc_spans.proofs.attributes.AttrsIterator.next.Goals as goal
 
 pub invariant_of-self : goal.invariant_of-self

@@ -1,7 +1,4 @@
-use Rattle.std.proofs.Common.{◌≡◌, ◌∙◌, ap, sym, subst}
-use Rattle.doc_spans.specs.AttributesLeft.{attributes_left}
-use Rattle.doc_spans.specs.Seen.{attributes_in}
-use Rattle.doc_spans.specs.declared.attributes.Attrs.{Attrs}
+use Rattle.std.proofs.Common.{◌∙◌}
 use Rattle.doc_spans.proofs.Calls.{start_within, attributes_value, no_attributes_value}
 use Rattle.doc_spans.proofs.documents.Doc.attrs.Goals as goal
 

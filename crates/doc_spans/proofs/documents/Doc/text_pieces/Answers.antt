@@ -1,7 +1,6 @@
-use Rattle.std.proofs.Common.{◌≡◌, ◌∙◌, ap}
+use Rattle.std.proofs.Common.{◌∙◌, ap}
 use Rattle.std.specs.Str.{chars}
 use Rattle.document_model.specs.Characters.{with_line_ends}
-use Rattle.doc_spans.specs.declared.rows.Kind.TheVariants as kinds
 use Rattle.doc_spans.proofs.Calls.{start_within, node_within, text_hold, text_value, other_value, no_other_value}
 use Rattle.doc_spans.proofs.documents.Doc.text_pieces.Goals as goal
 

@@ -1,5 +1,5 @@
-use Rattle.std.proofs.Common.{◌≡◌, ◌∷◌, ◌++◌, ◌∙◌, [], true, false, length, List, ℕ, nat_eq, refl, sym, ap, subst, Option, None, MatchOption, ◌==◌}
-use Rattle.std.proofs.lemmas.Bool.{eqb-true, not-false}
+use Rattle.std.proofs.Common.{◌≡◌, ◌++◌, ◌∙◌, [], true, length, List, ℕ, sym, ap, subst, Option, MatchOption, ◌==◌}
+use Rattle.std.proofs.lemmas.Bool.{eqb-true}
 use Rattle.std.proofs.lemmas.List.{nil_from_length}
 use Rattle.std.proofs.lemmas.Str.{scalars-chars}
 use Rattle.std.specs.Str.{chars, IsUtf8}

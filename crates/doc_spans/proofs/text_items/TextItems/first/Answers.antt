@@ -1,12 +1,11 @@
-use Rattle.std.proofs.Common.{◌≡◌, ◌+◌, ◌-◌, ◌<◌, ◌≤◌, ◌++◌, ◌∙◌, ℕ, List, ap, sym, subst, arith, length, take, drop, length-drop}
+use Rattle.std.proofs.Common.{◌≡◌, ◌-◌, ◌++◌, ◌∙◌, ap, sym, arith, length, take, drop, length-drop}
 use Rattle.std.proofs.lemmas.List.{length-take-le}
 use Rattle.std.proofs.lemmas.Str.{IsUtf8-from_is_utf8}
 use Rattle.std.specs.Str.{chars}
 use Rattle.xml_items.specs.Items.{item_in}
 use Rattle.doc_spans.specs.Texts.{text_between}
-use Rattle.doc_spans.specs.TextParts.{section_size}
 use Rattle.doc_spans.proofs.ItemKinds.{piece_names_char, scalar_found, section_fits}
-use Rattle.doc_spans.proofs.ItemRuns.{Run, One, hold_order, run_of, one_of, some_item}
+use Rattle.doc_spans.proofs.ItemRuns.{hold_order, run_of, one_of, some_item}
 use Rattle.doc_spans.proofs.text_items.TextItems.first.Goals as goal
 
 pub literal_end-behind-requires-clause-order : goal.literal_end-behind-requires-clause-order

@@ -1,4 +1,4 @@
-use Rattle.std.proofs.Common.{◌≡◌, ◌∙◌, sym}
+use Rattle.std.proofs.Common.{◌∙◌, sym}
 use Rattle.std.specs.Str.{chars}
 use Rattle.doc_spans.specs.Pieces.{characters_left, characters_in}
 use Rattle.doc_spans.proofs.SameTexts.{same_behind, same_none}
