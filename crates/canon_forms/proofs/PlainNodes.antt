@@ -16,6 +16,7 @@ use Rattle.document_model.proofs.PlainTexts.{plain_document_text}
 use Rattle.canon_forms.specs.declared.forms.Form.{Form}
 use Rattle.canon_forms.specs.declared.forms.Form.TheVariants as forms
 use Rattle.canon_forms.specs.Forms.{form_in, prefixes_in}
+use Rattle.document_model.specs.Plain.{IsPlain}
 use Rattle.document_model.specs.PlainText.{ArePlain, IsPlainTree, plain_start, plain_end, plain_text, plain_texts, plain_lines}
 use Rattle.doc_spans.specs.declared.documents.Doc.{Doc}
 use Rattle.doc_spans.specs.declared.documents.NodeId.{NodeId}
@@ -56,19 +57,19 @@ plain_at document (k ∷ path) node p e =
     let first = bound path (nth k document) node e in
     plain_descend path first.0 node (plain_nth k document first.0 p first.1) first.2
 
-pub is_plain : (doc : Doc) (node : NodeId) (n : Node) → node_in doc node ≡ Some n → IsPlainTree n
-is_plain doc node n e = plain_at (document_in doc) (path_in doc node) n (plain_document doc.bytes.now doc.plain) e
+pub is_plain : (doc : Doc) (node : NodeId) (n : Node) → IsPlain doc.bytes.now → node_in doc node ≡ Some n → IsPlainTree n
+is_plain doc node n plain e = plain_at (document_in doc) (path_in doc node) n (plain_document doc.bytes.now plain) e
 
 -- A text.
 
-pub text_written : (doc : Doc) (node : NodeId) → element_in doc node ≡ false → encodes (flat_map text_character (text_in doc node)) ≡ written_in doc node
-text_written doc node e = by_node (node_in doc node) refl
+pub text_written : (doc : Doc) (node : NodeId) → IsPlain doc.bytes.now → element_in doc node ≡ false → encodes (flat_map text_character (text_in doc node)) ≡ written_in doc node
+text_written doc node plain e = by_node (node_in doc node) refl
   where
     by_kind : (n : Node) → node_in doc node ≡ Some n → is_element n ≡ false → encodes (flat_map text_character (text_of_node n)) ≡ encodes (plain_text n)
     by_kind (Element name attributes nodes) at f = cc
     by_kind (Text cs) at f = refl
-    by_kind (Comment cs) at f = absurd (is_plain doc node (Comment cs) at)
-    by_kind (Instruction target content) at f = absurd (is_plain doc node (Instruction target content) at)
+    by_kind (Comment cs) at f = absurd (is_plain doc node (Comment cs) plain at)
+    by_kind (Instruction target content) at f = absurd (is_plain doc node (Instruction target content) plain at)
 
     by_node : (o : Option Node) → node_in doc node ≡ o → encodes (flat_map text_character (text_in doc node)) ≡ written_in doc node
     by_node None at = ap (λ o. encodes (flat_map text_character (option_map_or text_of_node o []))) at ∙ sym (ap (λ o. encodes (option_map_or plain_text o [])) at)
@@ -225,12 +226,12 @@ other_written doc i child numbers before now start b next is n e =
     ∙ e
 
 -- The text of the whole document.
-pub whole_written : (doc : Doc) (form : Form) (b : Bool) (i : ℕ) (numbers out : List ℕ) → numbers ≡ [] → NameBelow doc [] i numbers
+pub whole_written : (doc : Doc) (form : Form) (b : Bool) (i : ℕ) (numbers out : List ℕ) → IsPlain doc.bytes.now → numbers ≡ [] → NameBelow doc [] i numbers
     → out ++ encodes (plain_lines b (nodes_from i (document_in doc))) ≡ encodes (plain_lines false (document_in doc))
     → out ≡ octets_of (form_in form) whole (document_in doc)
-whole_written doc (forms.Exclusive comments prefixes) b i numbers out none names e =
+whole_written doc (forms.Exclusive comments prefixes) b i numbers out plain none names e =
     let past = no_child_left doc [] i numbers none names in
     sym (append-nil out)
     ∙ sym (ap (λ nodes. out ++ encodes (plain_lines b nodes)) past)
     ∙ e
-    ∙ ap encodes (sym (plain_document_text (prefixes_in prefixes) comments (document_in doc) (plain_document doc.bytes.now doc.plain)))
+    ∙ ap encodes (sym (plain_document_text (prefixes_in prefixes) comments (document_in doc) (plain_document doc.bytes.now plain)))

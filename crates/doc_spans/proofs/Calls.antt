@@ -1,26 +1,20 @@
 -- What the calls on a document need of its whole tree.
-use Rattle.std.proofs.Common.{◌≡◌, ℕ, zero, suc, ◌+◌, ◌-◌, ◌<◌, ◌≤◌, Bool, true, false, ◌&&◌, List, [], ◌∷◌, ◌++◌, length, take, drop, Option, Some, None, refl, sym, ◌∙◌, ap, subst, arith, length-append, length-drop, nat_eq, cond, not}
-use Rattle.std.proofs.Math.Logic.{∥∥₁_elim}
+use Rattle.std.proofs.Common.{◌≡◌, ℕ, ◌+◌, ◌-◌, ◌<◌, ◌≤◌, true, List, [], ◌∷◌, ◌++◌, length, drop, Some, None, refl, sym, ◌∙◌, ap, subst, arith, length-append, length-drop}
+use Rattle.std.proofs.Math.Logic.{∥∥₁_elim, ∥∥₁_map}
 use Rattle.std.proofs.Math.Nat.{ℕ_set}
 use Rattle.std.proofs.Math.Bool.{Bool-set}
 use Rattle.std.proofs.Props.{props}
-use Rattle.std.proofs.lemmas.Bool.Decides.{eqb_tells}
 use Rattle.std.proofs.lemmas.Option.{none-some}
-use Rattle.std.proofs.lemmas.Str.{chars-nil, chars-IsAscii, IsAscii-take, IsAscii-drop, IsUtf8-from_ascii}
-use Rattle.std.specs.Prelude.{map, slice_get, option_map, option_and_then, is_some, unwrap_or, IsTrue}
+use Rattle.std.proofs.lemmas.Str.{chars-nil}
+use Rattle.std.specs.Prelude.{option_map, is_some}
 use Rattle.std.specs.Option.{option_map_or}
-use Rattle.std.specs.Str.{chars, IsAscii, IsUtf8}
-use Rattle.std.specs.List.{All}
-use Rattle.document_model.specs.Characters.{span}
-use Rattle.document_model.specs.Names.{Name, name_of, joined_name, is_plain_name, is_not_colon, spelled, spelled_with}
+use Rattle.std.specs.Str.{chars}
+use Rattle.document_model.specs.Characters.{with_line_ends}
 use Rattle.document_model.specs.Items.{Attribute, Item, Piece, piece_at}
-use Rattle.document_model.specs.Tree.{Node, Nodes, Path, Element, Text, Comment, Instruction, no_nodes, node_at, count}
+use Rattle.document_model.specs.Tree.{Node, Path, Element, Text, Comment, Instruction, node_at, count}
 use Rattle.document_model.specs.Documents.{document_of}
 use Rattle.document_model.specs.Places.{Place}
-use Rattle.document_model.specs.Plain.{IsPlain, IsPlainNode}
-use Rattle.document_model.proofs.Joins.{piece_joins, by_test}
-use Rattle.document_model.proofs.PlainItems.{plain_ascii}
-use Rattle.xml_items.specs.Found.{name_in, IsNameText}
+use Rattle.document_model.proofs.Joins.{piece_joins}
 use Rattle.xml_items.specs.Items.{item_in, IsRead}
 use Rattle.xml_items.proofs.NameTexts.{spells}
 use Rattle.xml_items.specs.Scanned.{piece_in}
@@ -32,19 +26,19 @@ use Rattle.doc_spans.specs.declared.documents.NodeId.{NodeId}
 use Rattle.doc_spans.specs.declared.rows.Row.{Row}
 use Rattle.doc_spans.specs.declared.rows.Kind.TheVariants as kinds
 use Rattle.doc_spans.specs.Below.{paths_below}
-use Rattle.doc_spans.specs.Seen.{Has, NameBelow, node_in, nodes_at, name_of_node, text_of_node, shown_in, document_in}
-use Rattle.doc_spans.specs.Shown.{Shown, IsShownOf, ShowsRow, path_at, kind_of, children_of, children_from, shown_of}
-use Rattle.doc_spans.specs.View.{Each, under, paths_of, parents_of, places_of_rows, place_of_row, IsTree}
-use Rattle.doc_spans.specs.Written.{written_name}
-use Rattle.doc_spans.proofs.Builds.{row_paths}
+use Rattle.doc_spans.specs.Seen.{Has, NameBelow, node_in, nodes_at, name_of_node, text_of_node, attributes_of_node, shown_in, document_in}
+use Rattle.doc_spans.specs.Shown.{Shown, IsShownOf, ShowsRow, path_at, kind_of, children_of}
+use Rattle.doc_spans.specs.Texts.{StandFrom, AreTexts, text_added, HoldText, text_between}
+use Rattle.doc_spans.specs.View.{place_of_row}
+use Rattle.doc_spans.specs.Written.{written_name, written_text, written_attributes}
 use Rattle.doc_spans.proofs.ChildNodes.{children_within, count_is, get_there, path_at_place}
 use Rattle.doc_spans.proofs.Each.{some_is, each_weaker}
-use Rattle.doc_spans.proofs.Named.{head_of, paths}
+use Rattle.doc_spans.proofs.Named.{head_of}
+use Rattle.doc_spans.proofs.ItemRuns.{text_is}
 use Rattle.doc_spans.proofs.Nodes.{IsSeen}
-use Rattle.doc_spans.proofs.NodeTexts.{Stands, stands_at, plain_node, plain_text, from_seen, all_of_each}
+use Rattle.doc_spans.proofs.NodeTexts.{Stands, stands_at, from_seen, all_of_each}
 use Rattle.doc_spans.proofs.Numbered.{AreNumbered}
 use Rattle.doc_spans.proofs.Run.{piece_has}
-use Rattle.doc_spans.proofs.Shows.{IsNumber}
 use Rattle.doc_spans.proofs.Stays.{head}
 
 -- A text.
@@ -55,58 +49,159 @@ text_of_kind (Element name attributes inner) e = cc
 text_of_kind (Comment cs) e = cc
 text_of_kind (Instruction target content) e = cc
 
-record TextAt (bytes : List ℕ) (path : Path) (row : Row) : Type 0 where
-  order : row.start ≤ row.end
-  within : row.end ≤ length bytes
-  is : option_map_or text_of_node (node_at (document_of bytes) path) [] ≡ take (row.end - row.start) (drop row.start bytes)
+-- what stands at a node
+node_stands : (bytes : List ℕ) (shown : Shown) (k : ℕ) (row : Row) → IsShownOf shown bytes → ShowsRow shown k row → Stands bytes (place_of_row (path_at shown k) row)
+node_stands bytes shown k row whole shows = stands_at shown bytes k (place_of_row (path_at shown k) row) whole shows.place
 
-text_at : (bytes : List ℕ) (shown : Shown) (k : ℕ) (row : Row) → IsPlain bytes → IsShownOf shown bytes → ShowsRow shown k row → row.kind ≡ kinds.Text → TextAt bytes (path_at shown k) row
-text_at bytes shown k row plain whole shows kind =
-    let place = place_of_row (path_at shown k) row in
-    let stands = stands_at shown bytes k place whole shows.place in
-    let is_text = text_of_kind stands.0.node
-    (some_is _ _ (sym (ap (option_map kind_of) stands.0.named) ∙ whole.kinds k place row.kind shows.place shows.kind) ∙ kind) in
+-- and its kind
+node_kind : (bytes : List ℕ) (shown : Shown) (k : ℕ) (row : Row) → (whole : IsShownOf shown bytes) → (shows : ShowsRow shown k row) → kind_of (node_stands bytes shown k row whole shows).0.node ≡ row.kind
+node_kind bytes shown k row whole shows =
+    let stands = node_stands bytes shown k row whole shows in
+    some_is _ _ (sym (ap (option_map kind_of) stands.0.named) ∙ whole.kinds k (place_of_row (path_at shown k) row) row.kind shows.place shows.kind)
+
+record TextAt (bytes : List ℕ) (path : Path) (row : Row) : Type 0 where
+  pieces : List Piece
+  stand : StandFrom bytes row.start row.end pieces
+  texts : AreTexts pieces
+  is : option_map_or text_of_node (node_at (document_of bytes) path) [] ≡ text_added pieces
+
+text_at : (bytes : List ℕ) (shown : Shown) (k : ℕ) (row : Row) → IsShownOf shown bytes → ShowsRow shown k row → row.kind ≡ kinds.Text → TextAt bytes (path_at shown k) row
+text_at bytes shown k row whole shows kind =
+    let stands = node_stands bytes shown k row whole shows in
+    let is_text = text_of_kind stands.0.node (node_kind bytes shown k row whole shows ∙ kind) in
     let named : node_at (document_of bytes) (path_at shown k) ≡ Some (Text is_text.0) = stands.0.named ∙ ap Some is_text.1 in
-    let text = plain_text bytes place is_text.0 plain stands named in record {
-      order = text.order;
-      within = text.within;
-      is = ap (λ o. option_map_or text_of_node o []) named ∙ text.is;
+    let text = stands.0.text is_text.0 named in record {
+      pieces = text.0;
+      stand = text.1;
+      texts = text.2;
+      is = ap (λ o. option_map_or text_of_node o []) named ∙ sym text.3;
     }
 
 le_is_prop : (a b : ℕ) → IsProp (a ≤ b)
 le_is_prop a b = hlevel props
 
-pub text_order : (bytes : List ℕ) (shown : Shown) (k : ℕ) (row : Row) → IsPlain bytes → ∥ IsShownOf shown bytes ∥₁ → ShowsRow shown k row → row.kind ≡ kinds.Text → row.start ≤ row.end
-text_order bytes shown k row plain whole shows kind = ∥∥₁_elim whole (le_is_prop row.start row.end) (λ w. (text_at bytes shown k row plain w shows kind).order)
+pub text_hold : (bytes : List ℕ) (shown : Shown) (k : ℕ) (row : Row) → ∥ IsShownOf shown bytes ∥₁ → ShowsRow shown k row → row.kind ≡ kinds.Text → ∥ HoldText bytes row.start row.end ∥₁
+text_hold bytes shown k row whole shows kind = ∥∥₁_map whole (λ w. (let t = text_at bytes shown k row w shows kind in (t.pieces, t.stand, t.texts)))
 
-pub text_within : (bytes : List ℕ) (shown : Shown) (k : ℕ) (row : Row) → IsPlain bytes → ∥ IsShownOf shown bytes ∥₁ → ShowsRow shown k row → row.kind ≡ kinds.Text → row.end ≤ length bytes
-text_within bytes shown k row plain whole shows kind = ∥∥₁_elim whole (le_is_prop row.end (length bytes)) (λ w. (text_at bytes shown k row plain w shows kind).within)
+pub node_within : (bytes : List ℕ) (shown : Shown) (k : ℕ) (row : Row) → ∥ IsShownOf shown bytes ∥₁ → ShowsRow shown k row → row.end ≤ length bytes
+node_within bytes shown k row whole shows = ∥∥₁_elim whole (le_is_prop row.end (length bytes)) (λ w. (node_stands bytes shown k row w shows).1)
 
-pub text_value : (bytes : List ℕ) (shown : Shown) (k : ℕ) (row : Row) → IsPlain bytes → ∥ IsShownOf shown bytes ∥₁ → ShowsRow shown k row → row.kind ≡ kinds.Text
-    → take (row.end - row.start) (drop row.start bytes) ≡ option_map_or text_of_node (node_at (document_of bytes) (path_at shown k)) []
-text_value bytes shown k row plain whole shows kind = from_seen _ _ whole (λ w. sym (text_at bytes shown k row plain w shows kind).is)
+pub text_value : (bytes : List ℕ) (shown : Shown) (k : ℕ) (row : Row) → ∥ IsShownOf shown bytes ∥₁ → ShowsRow shown k row → row.kind ≡ kinds.Text
+    → text_between bytes row.start row.end ≡ option_map_or text_of_node (node_at (document_of bytes) (path_at shown k)) []
+text_value bytes shown k row whole shows kind = from_seen _ _ whole (λ w.
+    let t = text_at bytes shown k row w shows kind in text_is bytes row.start row.end t.pieces t.stand ∙ sym t.is)
 
--- Another node of a plain document has no text.
+-- The text of another node.
 
-no_text : (node : Node) → IsPlainNode node → (kind_of node ≡ kinds.Text → ⊥) → text_of_node node ≡ []
-no_text (Element name attributes inner) plain other = refl
-no_text (Text cs) plain other = absurd (other refl)
-no_text (Comment cs) plain other = absurd plain
-no_text (Instruction target content) plain other = absurd plain
+kind_of_head : (node : Node) → kind_of (head node) ≡ kind_of node
+kind_of_head (Element name attributes inner) = refl
+kind_of_head (Text cs) = refl
+kind_of_head (Comment cs) = refl
+kind_of_head (Instruction target content) = refl
 
-pub no_text_value : (bytes : List ℕ) (shown : Shown) (k : ℕ) (row : Row) → IsPlain bytes → ∥ IsShownOf shown bytes ∥₁ → ShowsRow shown k row → (row.kind ≡ kinds.Text → ⊥)
-    → [] ≡ option_map_or text_of_node (node_at (document_of bytes) (path_at shown k)) []
-no_text_value bytes shown k row plain whole shows other = from_seen _ _ whole (λ w.
-    let place = place_of_row (path_at shown k) row in
-    let stands = stands_at shown bytes k place w shows.place in
-    let kind : kind_of stands.0.node ≡ row.kind = some_is _ _ (sym (ap (option_map kind_of) stands.0.named) ∙ w.kinds k place row.kind shows.place shows.kind) in
-    sym (ap (λ o. option_map_or text_of_node o []) stands.0.named ∙ no_text stands.0.node (plain_node bytes place plain stands.0) (λ e. other (sym kind ∙ e))))
+text_of_head : (node : Node) → (kind_of node ≡ kinds.Text → ⊥) → text_of_node (head node) ≡ text_of_node node
+text_of_head (Element name attributes inner) other = refl
+text_of_head (Text cs) other = absurd (other refl)
+text_of_head (Comment cs) other = refl
+text_of_head (Instruction target content) other = refl
 
-pub part_ascii : (start n : ℕ) (bytes : List ℕ) → IsPlain bytes → IsAscii (take n (drop start bytes))
-part_ascii start n bytes plain = IsAscii-take (drop start bytes) n (IsAscii-drop bytes start (plain_ascii bytes plain))
+text_by : (found : Found) (node : Node) → (kind_of node ≡ kinds.Text → ⊥) → Some (head node) ≡ head_of (item_in found) → with_line_ends (chars (written_text found)) ≡ text_of_node node
+text_by item node other e = by_found item e
+  where
+    of : (m : Node) (text : List ℕ) → Some (head node) ≡ Some m → text_of_node m ≡ text → text ≡ text_of_node node
+    of m text e f = sym f ∙ sym (ap text_of_node (some_is (head node) m e)) ∙ text_of_head node other
 
-pub part_utf8 : (start n : ℕ) (bytes : List ℕ) → IsAscii bytes → IsUtf8 (take n (drop start bytes))
-part_utf8 start n bytes ascii = IsUtf8-from_ascii (take n (drop start bytes)) (IsAscii-take (drop start bytes) n (IsAscii-drop bytes start ascii))
+    no_text : Some (head node) ≡ Some (Text []) → ⊥
+    no_text e = other (sym (kind_of_head node) ∙ ap kind_of (some_is (head node) (Text []) e))
+
+    none : with_line_ends (chars []) ≡ []
+    none = ap with_line_ends chars-nil
+
+    by_found : (found : Found) → Some (head node) ≡ head_of (item_in found) → with_line_ends (chars (written_text found)) ≡ text_of_node node
+    by_found found.Declaration e = absurd (none-some (head node) (sym e))
+    by_found (found.StartTag name attributes) e = none ∙ of _ [] e refl
+    by_found (found.EmptyTag name attributes) e = none ∙ of _ [] e refl
+    by_found (found.EndTag name) e = absurd (none-some (head node) (sym e))
+    by_found (found.Character c) e = absurd (no_text e)
+    by_found (found.Reference c) e = absurd (no_text e)
+    by_found (found.Cdata text) e = absurd (no_text e)
+    by_found (found.Comment text) e = of _ _ e refl
+    by_found (found.Instruction target content) e = of _ _ e refl
+
+-- the item at a node
+node_item : (bytes : List ℕ) (shown : Shown) (k : ℕ) (row : Row) (scanned : Scanned) → (w : IsShownOf shown bytes) → (shows : ShowsRow shown k row)
+    → piece_at (drop row.start bytes) ≡ Some (piece_in bytes row.start scanned) → Some (head (node_stands bytes shown k row w shows).0.node) ≡ head_of (item_in scanned.found)
+node_item bytes shown k row scanned w shows at =
+    let seen = (node_stands bytes shown k row w shows).0 in
+    let f : Piece × List ℕ → Item = λ p. p.0.item in
+    seen.begun ∙ ap (λ p. head_of (f p)) (some_is _ _ (sym seen.read ∙ at))
+
+pub other_value : (bytes : List ℕ) (shown : Shown) (k : ℕ) (row : Row) (scanned : Scanned) → ∥ IsShownOf shown bytes ∥₁ → ShowsRow shown k row → (row.kind ≡ kinds.Text → ⊥)
+    → piece_at (drop row.start bytes) ≡ Some (piece_in bytes row.start scanned)
+    → with_line_ends (chars (written_text scanned.found)) ≡ option_map_or text_of_node (node_at (document_of bytes) (path_at shown k)) []
+other_value bytes shown k row scanned whole shows other at = from_seen _ _ whole (λ w.
+    let seen = (node_stands bytes shown k row w shows).0 in
+    text_by scanned.found seen.node (λ e. other (sym (node_kind bytes shown k row w shows) ∙ e)) (node_item bytes shown k row scanned w shows at)
+    ∙ ap (λ o. option_map_or text_of_node o []) (sym seen.named))
+
+pub no_other_value : (bytes : List ℕ) (shown : Shown) (k : ℕ) (row : Row) (xs : List ℕ) → ∥ IsShownOf shown bytes ∥₁ → ShowsRow shown k row
+    → piece_at (drop row.start bytes) ≡ None → xs ≡ option_map_or text_of_node (node_at (document_of bytes) (path_at shown k)) []
+no_other_value bytes shown k row xs whole shows at = from_seen _ _ whole (λ w. absurd (none-some _ (sym at ∙ (node_stands bytes shown k row w shows).0.read)))
+
+-- Attributes.
+
+attributes_of_head : (node : Node) → attributes_of_node (head node) ≡ attributes_of_node node
+attributes_of_head (Element name attributes inner) = refl
+attributes_of_head (Text cs) = refl
+attributes_of_head (Comment cs) = refl
+attributes_of_head (Instruction target content) = refl
+
+attributes_by : (found : Found) (node : Node) → Some (head node) ≡ head_of (item_in found) → written_attributes found ≡ attributes_of_node node
+attributes_by item node e = by_found item e
+  where
+    of : (m : Node) (attributes : List Attribute) → Some (head node) ≡ Some m → attributes_of_node m ≡ attributes → attributes ≡ attributes_of_node node
+    of m attributes e f = sym f ∙ sym (ap attributes_of_node (some_is (head node) m e)) ∙ attributes_of_head node
+
+    by_found : (found : Found) → Some (head node) ≡ head_of (item_in found) → written_attributes found ≡ attributes_of_node node
+    by_found found.Declaration e = absurd (none-some (head node) (sym e))
+    by_found (found.StartTag name attributes) e = of _ _ e refl
+    by_found (found.EmptyTag name attributes) e = of _ _ e refl
+    by_found (found.EndTag name) e = absurd (none-some (head node) (sym e))
+    by_found (found.Character c) e = of _ [] e refl
+    by_found (found.Reference c) e = of _ [] e refl
+    by_found (found.Cdata text) e = of _ [] e refl
+    by_found (found.Comment text) e = of _ [] e refl
+    by_found (found.Instruction target content) e = of _ [] e refl
+
+-- attributes as lists of numbers, and back
+abbrev code : List Attribute → List (List ℕ × List ℕ × List ℕ)
+code [] = []
+code (a ∷ attributes) = (a.name.prefix, a.name.local, a.value) ∷ code attributes
+
+abbrev decode : List (List ℕ × List ℕ × List ℕ) → List Attribute
+decode [] = []
+decode (t ∷ texts) = record { name = record { prefix = t.0; local = t.1 }; value = t.2 } ∷ decode texts
+
+decoded : (attributes : List Attribute) → decode (code attributes) ≡ attributes
+decoded [] = refl
+decoded (a ∷ attributes) = ap (λ as'. a ∷ as') (decoded attributes)
+
+codes_set : IsSet (List (List ℕ × List ℕ × List ℕ))
+codes_set = hlevel props
+
+attributes_seen : {A : Type 0} (x y : List Attribute) → ∥ A ∥₁ → (A → x ≡ y) → x ≡ y
+attributes_seen x y h f = sym (decoded x) ∙ ap decode (∥∥₁_elim h (codes_set (code x) (code y)) (λ a. ap code (f a))) ∙ decoded y
+
+pub attributes_value : (bytes : List ℕ) (shown : Shown) (k : ℕ) (row : Row) (scanned : Scanned) → ∥ IsShownOf shown bytes ∥₁ → ShowsRow shown k row
+    → piece_at (drop row.start bytes) ≡ Some (piece_in bytes row.start scanned)
+    → written_attributes scanned.found ≡ option_map_or attributes_of_node (node_at (document_of bytes) (path_at shown k)) []
+attributes_value bytes shown k row scanned whole shows at = attributes_seen _ _ whole (λ w.
+    let seen = (node_stands bytes shown k row w shows).0 in
+    attributes_by scanned.found seen.node (node_item bytes shown k row scanned w shows at) ∙ ap (λ o. option_map_or attributes_of_node o []) (sym seen.named))
+
+pub no_attributes_value : (bytes : List ℕ) (shown : Shown) (k : ℕ) (row : Row) (xs : List Attribute) → ∥ IsShownOf shown bytes ∥₁ → ShowsRow shown k row
+    → piece_at (drop row.start bytes) ≡ None → xs ≡ option_map_or attributes_of_node (node_at (document_of bytes) (path_at shown k)) []
+no_attributes_value bytes shown k row xs whole shows at = attributes_seen _ _ whole (λ w. absurd (none-some _ (sym at ∙ (node_stands bytes shown k row w shows).0.read)))
 
 -- Names.
 

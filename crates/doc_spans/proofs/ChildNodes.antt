@@ -1,23 +1,21 @@
 -- The numbers of the children of a node name its children, one after another, and all of them.
-use Rattle.std.proofs.Common.{◌≡◌, ℕ, zero, suc, ◌+◌, ◌-◌, ◌<◌, ◌≤◌, Bool, true, false, cond, ◌&&◌, List, [], ◌∷◌, ◌++◌, length, Option, Some, None, refl, sym, ◌∙◌, ap, subst, arith, ◌⊎◌, inl, inr, nat_eq, add-zero}
+use Rattle.std.proofs.Common.{◌≡◌, ℕ, zero, suc, ◌+◌, ◌<◌, ◌≤◌, Bool, true, false, cond, ◌&&◌, List, [], ◌∷◌, ◌++◌, length, Option, Some, None, refl, sym, ◌∙◌, ap, subst, arith, ◌⊎◌, inl, inr, add-zero}
 use Rattle.std.proofs.lemmas.Option.{none-some}
-use Rattle.std.proofs.lemmas.List.Sorted.{IsPermutation-sym, All-permutation}
+use Rattle.std.proofs.lemmas.List.Sorted.{All-permutation}
 use Rattle.std.specs.Prelude.{map, slice_get, option_map, option_and_then}
-use Rattle.std.specs.List.{All}
 use Rattle.std.specs.Option.{option_map_or}
-use Rattle.document_model.specs.Tree.{Node, Nodes, Path, Element, Text, Comment, Instruction, no_nodes, ◌⨾◌, nth, below, descend, node_at, count, tree_after}
+use Rattle.document_model.specs.Tree.{Node, Nodes, Path, no_nodes, ◌⨾◌, nth, below, descend, node_at, count, tree_after}
 use Rattle.document_model.specs.Documents.{run, limits, document_of}
 use Rattle.document_model.specs.Places.{Place, places_of}
-use Rattle.doc_spans.specs.Marks.{items_of, places_after}
 use Rattle.doc_spans.specs.Shown.{Shown, IsShownOf, path_at, is_child, children_from, children_of}
 use Rattle.doc_spans.specs.Seen.{nodes_at}
 use Rattle.doc_spans.specs.Below.{paths_below}
-use Rattle.doc_spans.specs.View.{Each, under}
+use Rattle.doc_spans.specs.View.{Each}
 use Rattle.doc_spans.proofs.AllNamed.{Has, all_named}
 use Rattle.doc_spans.proofs.Each.{each_get, some_is}
 use Rattle.doc_spans.proofs.Marks.{onto, eq_self}
 use Rattle.doc_spans.proofs.Named.{IsNode, paths}
-use Rattle.doc_spans.proofs.NodeTexts.{Stands, stands_at, all_of_each, each_of_all}
+use Rattle.doc_spans.proofs.NodeTexts.{stands_at, all_of_each, each_of_all}
 use Rattle.doc_spans.proofs.Numbered.{AreNumbered}
 use Rattle.doc_spans.proofs.Run.{run_good, places_of_run}
 use Rattle.doc_spans.proofs.TextNodes.{found_self}

@@ -1,30 +1,25 @@
 -- What the bytes of a node spell, as far as the calls on a document need it.
-use Rattle.std.proofs.Common.{◌≡◌, ℕ, zero, suc, ◌+◌, ◌-◌, ◌<◌, ◌≤◌, List, [], ◌∷◌, ◌++◌, length, take, drop, Option, Some, None, refl, sym, ◌∙◌, ap, subst, arith, append_assoc, length-append, length-drop}
+use Rattle.std.proofs.Common.{◌≡◌, ℕ, zero, suc, ◌≤◌, List, [], ◌∷◌, ◌++◌, length, drop, Some, sym, ap, subst, arith, length-append}
 use Rattle.std.proofs.Math.Logic.{∥∥₁_elim}
-use Rattle.std.proofs.Math.Seq.{take-append_seam}
 use Rattle.std.proofs.Props.{props}
 use Rattle.std.proofs.lemmas.Option.{none-some}
 use Rattle.std.proofs.lemmas.List.Sorted.{IsPermutation-sym, All-permutation}
-use Rattle.std.specs.Prelude.{option_map, slice_get, slice_index_or, flat_map}
+use Rattle.std.specs.Prelude.{slice_get, flat_map}
 use Rattle.std.specs.List.{All}
-use Rattle.std.specs.Option.{option_map_or}
-use Rattle.document_model.specs.Names.{spelled}
-use Rattle.document_model.specs.Items.{Item, Piece, piece_at, declaration, start_tag, empty_tag, end_tag, character, reference, cdata, comment, instruction}
-use Rattle.document_model.specs.Tree.{Node, Nodes, Path, Element, Text, Comment, Instruction, no_nodes, node_at}
-use Rattle.document_model.specs.Documents.{run, limits, document_of}
+use Rattle.document_model.specs.Items.{Item, declaration, start_tag, empty_tag, end_tag, character, reference, cdata, comment, instruction}
+use Rattle.document_model.specs.Tree.{Node, Element, Text, Comment, Instruction, no_nodes}
+use Rattle.document_model.specs.Documents.{run, limits}
 use Rattle.document_model.specs.Places.{Place, places_of}
 use Rattle.document_model.specs.Plain.{IsPlain, IsPlainPiece, IsPlainNode}
-use Rattle.document_model.proofs.Joins.{piece_joins, run_joins}
+use Rattle.document_model.proofs.Joins.{run_joins}
 use Rattle.document_model.proofs.PlainItems.{plain_drop, plain_item}
-use Rattle.doc_spans.specs.Marks.{size, items_of, places_after}
-use Rattle.doc_spans.specs.Shown.{Shown, IsShownOf, path_at}
-use Rattle.doc_spans.specs.Texts.{text_added_by, text_added, IsPartOfText, AreTexts, StandFrom}
-use Rattle.doc_spans.specs.Seen.{text_of_node}
+use Rattle.doc_spans.specs.Marks.{size, places_after}
+use Rattle.doc_spans.specs.Shown.{Shown, IsShownOf}
 use Rattle.doc_spans.specs.View.{Each}
 use Rattle.doc_spans.proofs.Each.{each_get, each_weaker, some_is}
 use Rattle.doc_spans.proofs.Marks.{EndsBy, ended, onto}
 use Rattle.doc_spans.proofs.Named.{head_of}
-use Rattle.doc_spans.proofs.Nodes.{SeenIn, IsSeen, places_seen}
+use Rattle.doc_spans.proofs.Nodes.{IsSeen, places_seen}
 use Rattle.doc_spans.proofs.Over.{size_onto}
 use Rattle.doc_spans.proofs.Run.{places_of_run}
 use Rattle.doc_spans.proofs.Stays.{head}
@@ -85,57 +80,6 @@ plain_head (instruction target content) node text e h = absurd h
 pub plain_node : (bytes : List ℕ) (place : Place) → IsPlain bytes → (seen : IsSeen bytes place) → IsPlainNode seen.node
 plain_node bytes place h seen =
     plain_head seen.piece.item seen.node seen.piece.text seen.begun (plain_item (drop place.start bytes) (seen.piece, drop place.first_end bytes) (plain_drop place.start bytes h) seen.read)
-
-text_of_piece : (item : Item) (text : List ℕ) → IsPlainPiece item text → IsPartOfText item → text_added_by item ≡ text
-text_of_piece declaration text h t = absurd h
-text_of_piece (start_tag name attributes) text h t = absurd t
-text_of_piece (empty_tag name attributes) text h t = absurd t
-text_of_piece (end_tag name) text h t = absurd t
-text_of_piece (character c) text h t = sym h
-text_of_piece (reference c) text h t = absurd h
-text_of_piece (cdata cs) text h t = absurd h
-text_of_piece (comment cs) text h t = absurd h
-text_of_piece (instruction target content) text h t = absurd h
-
--- the characters of plain items are their bytes
-plain_texts : (bytes : List ℕ) (start end : ℕ) (pieces : List Piece) → IsPlain bytes → StandFrom bytes start end pieces → AreTexts pieces
-    → (start ≤ end) × (text_added pieces ++ drop end bytes ≡ drop start bytes)
-plain_texts bytes start end [] h at t = (omega (arith, at), ap (λ n. drop n bytes) (sym at))
-plain_texts bytes start end (piece ∷ pieces) h at t =
-    let later = plain_texts bytes (start + length piece.text) end pieces h at.1 t.1 in
-    let is : text_added_by piece.item ≡ piece.text =
-    text_of_piece piece.item piece.text (plain_item (drop start bytes) (piece, drop (start + length piece.text) bytes) (plain_drop start bytes h) at.0) t.0 in (
-      (let l = later.0 in omega (arith, l)),
-      append_assoc (text_added_by piece.item) (text_added pieces) (drop end bytes)
-          ∙ ap (λ xs. text_added_by piece.item ++ xs) later.1
-          ∙ ap (λ xs. xs ++ drop (start + length piece.text) bytes) is
-          ∙ piece_joins (drop start bytes) (piece, drop (start + length piece.text) bytes) at.0,
-    )
-
-take_front : (xs ys zs : List ℕ) (n : ℕ) → xs ++ ys ≡ zs → n ≡ length xs → xs ≡ take n zs
-take_front xs ys zs n e l = sym (take-append_seam xs ys) ∙ (λ i. take (sym l i) (e i))
-
--- where the text of a plain document's node stands
-pub record TextStands (bytes : List ℕ) (place : Place) (text : List ℕ) : Type 0 where
-  pub order : place.start ≤ place.end
-  pub within : place.end ≤ length bytes
-  pub is : text ≡ take (place.end - place.start) (drop place.start bytes)
-
-pub plain_text : (bytes : List ℕ) (place : Place) (cs : List ℕ) → IsPlain bytes → Stands bytes place → node_at (document_of bytes) place.path ≡ Some (Text cs) → TextStands bytes place cs
-plain_text bytes place cs h stands e =
-    let text = stands.0.text cs e in
-    let plain = plain_texts bytes place.start place.end text.0 h text.1 text.2 in
-    let joined : cs ++ drop place.end bytes ≡ drop place.start bytes = ap (λ x. x ++ drop place.end bytes) (sym text.3) ∙ plain.1 in
-    let l : length (cs ++ drop place.end bytes) ≡ length (drop place.start bytes) = ap length joined in
-    let parts = length-append cs (drop place.end bytes) in
-    let a = length-drop place.end bytes in
-    let b = length-drop place.start bytes in
-    let within = stands.1 in
-    let order = plain.0 in record {
-      order = order;
-      within = within;
-      is = take_front cs (drop place.end bytes) (drop place.start bytes) (place.end - place.start) joined (omega (arith, l, parts, a, b, within, order));
-    }
 
 -- For the calls.
 

@@ -1,6 +1,5 @@
 -- What stands at each place of a document: the item at its first byte begins its node, and a text's characters are those of its items.
-use Rattle.std.proofs.Common.{◌≡◌, ℕ, List, [], ◌∷◌, drop, Some, refl, sym, ◌∙◌, ap, subst}
-use Rattle.std.specs.Prelude.{map}
+use Rattle.std.proofs.Common.{◌≡◌, ℕ, List, [], ◌∷◌, drop, Some, sym, ◌∙◌, ap, subst}
 use Rattle.document_model.specs.Items.{Item, Piece, piece_at}
 use Rattle.document_model.specs.Tree.{Node, Nodes, tree_after, node_at}
 use Rattle.document_model.specs.Documents.{run, limits, document_of}
@@ -10,7 +9,7 @@ use Rattle.doc_spans.specs.Texts.{IsTextOf}
 use Rattle.doc_spans.specs.View.{Each}
 use Rattle.doc_spans.proofs.Each.{each_map, each_weaker}
 use Rattle.doc_spans.proofs.Marks.{onto}
-use Rattle.doc_spans.proofs.Named.{Mark, IsMark, head_of, places, marks_after, marks_name, marks_places}
+use Rattle.doc_spans.proofs.Named.{IsMark, head_of, places, marks_after, marks_name, marks_places}
 use Rattle.doc_spans.proofs.Read.{WereRead, StandsAt, run_was_read, marks_stand}
 use Rattle.doc_spans.proofs.Run.{run_good, places_of_run}
 use Rattle.doc_spans.proofs.Stays.{head}

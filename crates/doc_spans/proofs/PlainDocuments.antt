@@ -1,14 +1,11 @@
 -- Each node of a plain document is plain.
-use Rattle.std.proofs.Common.{◌≡◌, ℕ, List, [], ◌∷◌, length, inl, inr, Some, sym, ◌∙◌, ap, subst}
-use Rattle.std.specs.Prelude.{slice_get}
-use Rattle.document_model.specs.Tree.{Node, Nodes, Path, node_at, tree_after}
+use Rattle.std.proofs.Common.{◌≡◌, ℕ, List, [], length, inl, inr, Some, sym, ◌∙◌, ap, subst}
+use Rattle.document_model.specs.Tree.{Node, Path, node_at, tree_after}
 use Rattle.document_model.specs.Documents.{run, limits, document_of}
 use Rattle.document_model.specs.Places.{Place, places_of}
 use Rattle.document_model.specs.Plain.{IsPlain, IsPlainNode}
 use Rattle.document_model.specs.PlainText.{ArePlain}
 use Rattle.document_model.proofs.PlainTexts.{are_plain}
-use Rattle.doc_spans.specs.Marks.{items_of, places_after}
-use Rattle.doc_spans.specs.View.{Each}
 use Rattle.doc_spans.proofs.AllNamed.{Has, all_named}
 use Rattle.doc_spans.proofs.ChildNodes.{find_path, has_place}
 use Rattle.doc_spans.proofs.Each.{each_get, some_is}

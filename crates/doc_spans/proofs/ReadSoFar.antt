@@ -13,8 +13,7 @@ use Rattle.doc_spans.specs.Building.{State, new, step}
 use Rattle.doc_spans.specs.View.{IsTree}
 use Rattle.doc_spans.specs.Shown.{shown_of, IsShownOf}
 use Rattle.doc_spans.specs.Standing.{Standing, standing_of, is_deep, nodes_added, is_one_too_many, legal_here, legal_within_here, fault_here, is_complete, after}
-use Rattle.document_model.specs.Plain.{IsPlain}
-use Rattle.doc_spans.specs.Faults.{fault_in, IsFirstFault, IsFaultOf}
+use Rattle.doc_spans.specs.Faults.{fault_in, IsFirstFault}
 use Rattle.doc_spans.specs.declared.faults.DocFault.{DocFault}
 use Rattle.doc_spans.specs.declared.faults.DocFault.TheVariants.{Item, Doctype, Depth, Nodes, End, OutOfMemory, NotBuilt}
 use Rattle.xa_io.specs.Causes.{counted}

@@ -1,13 +1,13 @@
 -- A whole document has a document element.
-use Rattle.std.proofs.Common.{◌≡◌, ℕ, zero, suc, pred, ◌<◌, ◌≤◌, Bool, true, false, ◌&&◌, List, [], ◌∷◌, ◌++◌, length, Option, Some, None, refl, sym, ◌∙◌, ap, subst, arith, inl, inr}
+use Rattle.std.proofs.Common.{◌≡◌, ℕ, zero, suc, pred, ◌<◌, Bool, true, false, ◌&&◌, List, [], ◌∷◌, ◌++◌, length, Option, Some, None, refl, sym, ◌∙◌, ap, subst, arith, inl, inr}
 use Rattle.std.proofs.Math.Logic.{∥∥₁_elim}
 use Rattle.std.proofs.lemmas.Bool.{cases_eq}
 use Rattle.std.proofs.lemmas.Option.{none-some}
-use Rattle.std.specs.Prelude.{option_map, option_and_then}
+use Rattle.std.specs.Prelude.{option_map}
 use Rattle.document_model.specs.Characters.{is_empty}
 use Rattle.document_model.specs.Names.{Name}
 use Rattle.document_model.specs.Items.{Attribute, Item, declaration, start_tag, empty_tag, end_tag, character, reference, cdata, comment, instruction}
-use Rattle.document_model.specs.Tree.{Node, Nodes, Element, Text, Comment, Instruction, no_nodes, ◌⨾◌, nth, descend, node_at, IsElement, last_of, last_path, count, depth, added_at, tree_after}
+use Rattle.document_model.specs.Tree.{Node, Nodes, Element, Text, Comment, Instruction, no_nodes, ◌⨾◌, nth, node_at, IsElement, last_path, count, depth, added_at, tree_after}
 use Rattle.document_model.specs.Documents.{run, limits, fault, document_of, has_element, open_elements}
 use Rattle.document_model.proofs.Grown.{Spine}
 use Rattle.document_model.proofs.Put.{last_nth}
@@ -20,7 +20,6 @@ use Rattle.doc_spans.specs.Seen.{NameBelow, document_in, shown_in}
 use Rattle.doc_spans.proofs.ChildSteps.{NextChild, no_child_left}
 use Rattle.doc_spans.specs.Marks.{items_of, Follow, open_path}
 use Rattle.doc_spans.specs.Shown.{kind_of, path_at}
-use Rattle.doc_spans.proofs.ChildNodes.{child_at, nth_within}
 use Rattle.doc_spans.proofs.Each.{some_is}
 use Rattle.doc_spans.proofs.Marks.{onto}
 use Rattle.doc_spans.proofs.Named.{named_begun}

@@ -1,5 +1,5 @@
 -- The characters of a text node where a tree grows: they stay, or the new ones stand behind them.
-use Rattle.std.proofs.Common.{◌≡◌, ℕ, zero, suc, pred, Bool, true, false, cond, ◌&&◌, List, [], ◌∷◌, ◌++◌, Option, Some, None, refl, sym, ◌∙◌, ap, ◌⊎◌, inl, inr, nat_eq}
+use Rattle.std.proofs.Common.{◌≡◌, ℕ, zero, suc, pred, true, false, ◌&&◌, List, [], ◌∷◌, ◌++◌, Option, Some, None, refl, sym, ◌∙◌, ap, inl, inr}
 use Rattle.std.proofs.lemmas.Option.{none-some}
 use Rattle.std.proofs.lemmas.Bool.Decides.{eqb_tells}
 use Rattle.std.specs.Prelude.{option_map, option_and_then}
@@ -9,7 +9,7 @@ use Rattle.document_model.specs.NodeSets.{is_within}
 use Rattle.document_model.proofs.Grown.{Spine, spine_stays}
 use Rattle.document_model.proofs.Put.{last_nth}
 use Rattle.doc_spans.proofs.Each.{some_is}
-use Rattle.doc_spans.proofs.Spine.{inside, path_of_last, path_grown, inside_grown, at_inside, same_either_way}
+use Rattle.doc_spans.proofs.Spine.{inside, path_grown, inside_grown, at_inside, same_either_way}
 use Rattle.doc_spans.proofs.Steps.{is_text}
 
 abbrev Reached : Path → Option Node → List ℕ → Type 0

@@ -1,30 +1,29 @@
 -- The characters of a text node are those of the items between the first and the last byte of its place.
-use Rattle.std.proofs.Common.{◌≡◌, ℕ, zero, suc, pred, ◌+◌, ◌<◌, Bool, true, false, not, cond, ◌&&◌, ◌||◌, List, [], ◌∷◌, ◌++◌, length, drop, Option, Some, None, refl, sym, ◌∙◌, ap, subst, arith, ◌⊎◌, inl, inr, nat_eq, append_assoc}
+use Rattle.std.proofs.Common.{◌≡◌, ℕ, zero, suc, pred, ◌+◌, ◌<◌, Bool, true, false, cond, ◌&&◌, List, [], ◌∷◌, ◌++◌, length, drop, Option, Some, refl, sym, ◌∙◌, ap, subst, arith, ◌⊎◌, inl, inr, nat_eq, append_assoc}
 use Rattle.std.proofs.lemmas.Option.{none-some}
 use Rattle.std.proofs.lemmas.Bool.Decides.{eqb_tells}
 use Rattle.std.proofs.lemmas.List.{append-nil}
 use Rattle.std.specs.Prelude.{map, option_map}
 use Rattle.document_model.specs.Items.{Attribute, Item, Piece, piece_at, declaration, start_tag, empty_tag, end_tag, character, reference, cdata, comment, instruction}
-use Rattle.document_model.specs.Tree.{Node, Nodes, Path, Element, Text, Comment, Instruction, no_nodes, ◌⨾◌, nth, node_at, joined, grown, depth, added_by, added_at, tree_after, last_path, count}
+use Rattle.document_model.specs.Tree.{Node, Nodes, Path, Element, Text, Comment, Instruction, no_nodes, ◌⨾◌, nth, node_at, grown, depth, added_by, added_at, tree_after, count}
 use Rattle.document_model.specs.Documents.{is_in_text}
 use Rattle.document_model.specs.NodeSets.{is_within}
 use Rattle.document_model.specs.Places.{Place, path_of, begins_node}
-use Rattle.document_model.proofs.Grown.{Spine, grown_none, added_start, added_end}
+use Rattle.document_model.proofs.Grown.{grown_none, added_start, added_end}
 use Rattle.document_model.specs.Names.{Name}
-use Rattle.doc_spans.specs.Marks.{size, items_of, gone_on, begun, places_after, Fits, Follow, open_path}
+use Rattle.doc_spans.specs.Marks.{size, items_of, gone_on, begun, places_after, Follow, open_path}
 use Rattle.doc_spans.specs.Texts.{text_added_by, StandFrom, AreTexts, text_added, IsTextOf}
 use Rattle.doc_spans.specs.View.{Each}
-use Rattle.doc_spans.proofs.Each.{each_append, each_map, each_weaker, some_is}
+use Rattle.doc_spans.proofs.Each.{each_append, each_map, some_is}
 use Rattle.doc_spans.proofs.Marks.{within_self, eq_self}
 use Rattle.doc_spans.proofs.Seen.{within_more}
-use Rattle.doc_spans.proofs.Spine.{inside, path_of_last, none_behind, path_grown, inside_grown, at_inside}
+use Rattle.doc_spans.proofs.Spine.{path_of_last, none_behind}
 use Rattle.doc_spans.proofs.Stays.{head, stays}
-use Rattle.doc_spans.proofs.Steps.{children, child_count, ends_in_text, is_text, spine, never, text_is_last, begins_text, deep, added_whole, added_comment, added_instruction, path_begun}
-use Rattle.doc_spans.proofs.Named.{Names, named_begun, head_of, IsNode, paths, paths_name, fresh, same_path, paths_gone_on, new_node}
-use Rattle.doc_spans.proofs.Read.{WereRead}
-use Rattle.doc_spans.proofs.Builds.{IsNothing, IsNew, IsLeaf, IsStart, GoesOn, IsEnd}
-use Rattle.doc_spans.proofs.Turn.{one, added_nothing, added_flat, path_same, is_nothing_declaration, is_nothing_outside, is_nothing_section, IsText, text_character, text_reference, text_section, goes_on_text, goes_on_section, leaf_text, leaf_empty, leaf_comment, leaf_instruction, starts, ends}
-use Rattle.doc_spans.proofs.TextNodes.{keeps_text, grows_text, last_inside, at_last_inside, beside_open}
+use Rattle.doc_spans.proofs.Steps.{children, child_count, ends_in_text, is_text, spine, text_is_last, deep, added_whole, added_comment, added_instruction, path_begun}
+use Rattle.doc_spans.proofs.Named.{named_begun, head_of, IsNode, paths_name, fresh, same_path, new_node}
+use Rattle.doc_spans.proofs.Builds.{IsNothing, GoesOn}
+use Rattle.doc_spans.proofs.Turn.{one, added_nothing, added_flat, is_nothing_declaration, is_nothing_outside, is_nothing_section, IsText, text_character, text_reference, text_section, goes_on_text, goes_on_section, leaf_text, ends}
+use Rattle.doc_spans.proofs.TextNodes.{keeps_text, grows_text, at_last_inside, beside_open}
 
 -- Paths, the same or not.
 

@@ -1,10 +1,11 @@
 -- What a clause sees of a document: its bytes, the tree that they spell, and which node each number names.
-use Rattle.std.specs.Prelude.{◌≡◌, ℕ, zero, suc, ◌-◌, ◌<◌, List, [], ◌∷◌, ◌++◌, length, Option, None, Some, slice_get, map}
+use Rattle.std.specs.Prelude.{◌≡◌, ℕ, ◌-◌, ◌<◌, List, [], ◌∷◌, length, Option, slice_get, map}
 use Rattle.std.specs.List.{All}
 use Rattle.std.specs.Option.{option_map_or}
 use Rattle.doc_spans.specs.declared.documents.Doc.{Doc}
 use Rattle.doc_spans.specs.declared.documents.NodeId.{NodeId}
 use Rattle.document_model.specs.Names.{spelled}
+use Rattle.document_model.specs.Items.{Attribute}
 use Rattle.document_model.specs.Tree.{Node, Nodes, Path, Element, Text, Comment, Instruction, no_nodes, node_at, below, count}
 use Rattle.document_model.specs.Places.{Place}
 use Rattle.document_model.specs.Documents.{document_of}
@@ -68,3 +69,13 @@ text_of_node (Instruction target content) = content
 
 abbrev pub text_in : Doc → NodeId → List ℕ
 text_in doc node = option_map_or text_of_node (node_in doc node) []
+
+-- the attributes of a node, in document order with the declarations; only an element has some
+abbrev pub attributes_of_node : Node → List Attribute
+attributes_of_node (Element name attributes nodes) = attributes
+attributes_of_node (Text cs) = []
+attributes_of_node (Comment cs) = []
+attributes_of_node (Instruction target content) = []
+
+abbrev pub attributes_in : Doc → NodeId → List Attribute
+attributes_in doc node = option_map_or attributes_of_node (node_in doc node) []

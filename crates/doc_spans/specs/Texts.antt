@@ -1,5 +1,6 @@
 -- The characters of a text node: those of the items that its place spans.
-use Rattle.std.specs.Prelude.{◌≡◌, ℕ, ◌+◌, List, [], ◌∷◌, ◌++◌, length, drop, Some}
+use Rattle.std.specs.Prelude.{◌≡◌, ℕ, zero, suc, ◌+◌, ◌-◌, ◌<◌, ◌≤◌, ◌==◌, ◌||◌, not, Bool, true, get_or, List, [], ◌∷◌, ◌++◌, length, drop, Some, if◌then◌else◌}
+use Rattle.std.specs.Option.{option_map_or}
 use Rattle.document_model.specs.Items.{Item, Piece, piece_at, character, reference, cdata}
 use Rattle.document_model.specs.Tree.{Nodes, Text, node_at}
 use Rattle.document_model.specs.Places.{Place}
@@ -36,3 +37,26 @@ StandFrom bytes start end (piece ∷ pieces) =
 abbrev pub IsTextOf : List ℕ → Nodes → Place → Type 0
 IsTextOf bytes tree place = (cs : List ℕ) → node_at tree place.path ≡ Some (Text cs)
     → (pieces : List Piece) × StandFrom bytes place.start place.end pieces × AreTexts pieces × (text_added pieces ≡ cs)
+
+-- from a place to another stand items of a text alone
+abbrev pub HoldText : List ℕ → ℕ → ℕ → Type 0
+HoldText bytes start end = (pieces : List Piece) × StandFrom bytes start end pieces × AreTexts pieces
+
+-- the characters of the items from a place to another, at most n of them
+abbrev pub text_of_items : ℕ → List ℕ → ℕ → ℕ → List ℕ
+text_of_items zero bytes start end = []
+text_of_items (suc n) bytes start end =
+    if start == end then []
+    else option_map_or (λ found. text_added_by found.0.item ++ text_of_items n bytes (start + length found.0.text) end) (piece_at (drop start bytes)) []
+
+-- the characters of all items from a place to another: each has a byte at least
+abbrev pub text_between : List ℕ → ℕ → ℕ → List ℕ
+text_between bytes start end = text_of_items (end - start) bytes start end
+
+-- Bytes that begin no reference, no markup and no line end.
+
+abbrev pub is_literal_byte : ℕ → Bool
+is_literal_byte b = not ((b == 0x3C) || (b == 0x26) || (b == 0xD))
+
+abbrev pub AreLiteral : List ℕ → ℕ → ℕ → Type 0
+AreLiteral bytes start end = (k : ℕ) → start ≤ k → k < end → is_literal_byte (get_or bytes k 0) ≡ true

@@ -1,13 +1,15 @@
 //! A document: its bytes with their tree, and what each node of it is.
 
-ghost use Rattle.std.specs.Prelude.{◌≡◌, ◌-◌, ◌≤◌, take, drop, length, Some, IfSome, IfNone, []};
+ghost use Rattle.std.specs.Prelude.{◌≡◌, Some, IfSome, IfNone, []};
 ghost use Rattle.std.specs.Prelude.{option_map};
-ghost use Rattle.std.specs.Str.{chars, IsAscii};
-ghost use Rattle.doc_spans.specs.Written.{written_name};
-ghost use Rattle.std.proofs.Props.{props};
+ghost use Rattle.std.specs.Str.{chars};
+ghost use Rattle.xml_items.specs.Items.{IsRead};
+ghost use Rattle.doc_spans.specs.AttributesLeft.{attributes_left};
+ghost use Rattle.doc_spans.specs.Pieces.{characters_left};
+ghost use Rattle.doc_spans.specs.Written.{written_name, written_text, written_attributes};
 ghost use Rattle.doc_spans.specs.Shown.{IsShownOf};
-ghost use Rattle.document_model.specs.Plain.{IsPlain};
 
+use crate::attributes::Attrs;
 use crate::child_nodes::Children;
 use crate::rows::{Kind, NONE};
 use crate::texts::Pieces;
@@ -34,19 +36,16 @@ pub struct Doc<'a> {
     pub(crate) bytes: &'a [u8],
     pub(crate) tree: &'a Tree,
     ghost whole: { ∥ IsShownOf tree.now bytes.now ∥₁ },
-    ghost plain: { IsPlain bytes.now } by { Prim.hlevel props },
 }
 
 impl<'a> Doc<'a> {
     ghost use Rattle.doc_spans.specs.Rest.{rest};
     ghost use Rattle.doc_spans.specs.Shown.{kind_of, outer_path};
-    ghost use Rattle.doc_spans.specs.Seen.{Has, NameBelow, bytes_in, shown_in, path_in, place_in, node_in, name_in, text_in};
-    ghost use Rattle.doc_spans.specs.Pieces.{characters_left};
+    ghost use Rattle.doc_spans.specs.Seen.{Has, NameBelow, bytes_in, shown_in, path_in, place_in, node_in, name_in, text_in, attributes_in};
 
-    /// A document by its bytes, which are plain, and their tree.
+    /// A document by its bytes and their tree.
     pub fn of(bytes: &'a [u8], tree: &'a Tree) -> Doc<'a>
         requires whole { ∥ IsShownOf tree.now bytes.now ∥₁ }
-        requires plain { IsPlain bytes.now }
         ensures bytes { bytes_in result ≡ bytes.now }
         ensures tree { shown_in result ≡ tree.now }
     {
@@ -149,15 +148,32 @@ impl<'a> Doc<'a> {
         }
     }
 
-    /// The characters of a text; none for another node.
+    /// The attributes and namespace declarations of an element, in document order; none for another node.
+    pub fn attrs(self, node: NodeId) -> Attrs<'a>
+        requires { Has self node }
+        ensures { attributes_left result ≡ attributes_in self.entry node }
+    {
+        let start = self.tree.row(node.0).start;
+        match next_item(self.bytes, start as usize) {
+            Some(scanned) => return attributes_found(scanned.found),
+            None => return Attrs::none(),
+        }
+    }
+
+    /// The characters of a text or a comment, or the content of a PI; none for an element. References are decoded, CDATA sections are
+    /// given without their markers, and line ends are read as LF (XML 1.0, section 2.11).
     pub fn text_pieces(self, node: NodeId) -> Pieces<'a>
         requires { Has self node }
         ensures { characters_left result ≡ text_in self.entry node }
     {
         let row = self.tree.row(node.0);
+        let (start, end) = (row.start as usize, row.end as usize);
         match row.kind {
-            Kind::Text => Pieces::of(ascii_part(self.bytes, row.start, row.end)),
-            _ => Pieces::of(""),
+            Kind::Text => Pieces::of_items(self.bytes, start, end),
+            _ => match next_item(self.bytes, start) {
+                Some(scanned) => Pieces::with_line_ends(text_found(scanned.found)),
+                None => Pieces::of(""),
+            },
         }
     }
 }
@@ -173,15 +189,24 @@ fn name_found<'a>(found: Found<'a>) -> &'a str
     }
 }
 
-// A part of ASCII bytes, as a text.
-fn ascii_part(bytes: &[u8], start: u32, end: u32) -> &str
-    requires order { start ≤ end }
-    requires within { end ≤ length bytes.now }
-    requires ascii { IsAscii bytes.now }
-    ensures { result.now ≡ take (end - start) (drop start bytes.now) }
+// The text of a comment, or the content of a PI, as it is written.
+fn text_found<'a>(found: Found<'a>) -> &'a str
+    ensures { result.now ≡ written_text found.entry }
 {
-    match std::str::from_utf8(&bytes[start as usize..end as usize]) {
-        Ok(text) => text,
-        Err(_) => unreachable!(),
+    match found {
+        Found::Comment(text) => text,
+        Found::Instruction(_, content) => content,
+        _ => "",
+    }
+}
+
+// The attributes of a tag.
+fn attributes_found<'a>(found: Found<'a>) -> Attrs<'a>
+    requires { IsRead found }
+    ensures { attributes_left result ≡ written_attributes found.entry }
+{
+    match found {
+        Found::StartTag(_, attributes) | Found::EmptyTag(_, attributes) => Attrs::of(attributes),
+        _ => Attrs::none(),
     }
 }

@@ -1,20 +1,25 @@
 //! Documents as spans: the tree that bytes spell, as a flat list of places in them.
 #![tactic(auto)]
 
+mod attributes;
 mod building;
 mod child_nodes;
 mod documents;
 mod faults;
 mod open_tags;
+mod parts;
 mod plain;
 mod reading;
+mod readings;
 mod rows;
 mod scopes;
 mod soundness;
 mod standing;
+mod text_items;
 mod texts;
 mod trees;
 
+pub use attributes::{Attr, Attrs};
 pub use child_nodes::Children;
 pub use documents::{Doc, NodeId, Span};
 pub use faults::DocFault;

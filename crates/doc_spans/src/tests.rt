@@ -2,7 +2,7 @@
 
 ghost use Rattle.std.specs.Prelude.{◌≤◌, length};
 
-use crate::{DocFault, Tree};
+use crate::{DocFault, Piece, Pieces, Tree};
 use std::alloc::{AllocError, Global};
 use std::test::Fail;
 use xa_io::Steps;
@@ -71,4 +71,19 @@ fn tells_the_first_element_that_is_too_deep(rt: HostRuntime) -> Result<(), Fail>
         Some(DocFault::Depth { at: 768 })
     );
     Ok(())
+}
+
+#[test]
+fn gives_and_compares_characters(rt: HostRuntime) {
+    let mut pieces = Pieces::of("a&b");
+    assert!(rt; pieces.same("a&b"));
+    assert!(rt; !pieces.same("a&"));
+    assert_eq!(rt; pieces.next(), Some(Piece::Run("a&b")));
+    assert_eq!(rt; pieces.next(), None);
+    assert!(rt; pieces.same(""));
+}
+
+#[test]
+fn reads_line_ends_and_values(rt: HostRuntime) {
+    assert!(rt; Pieces::with_line_ends("a\r\nb\rc&lt;").same("a\nb\nc&lt;"));
 }

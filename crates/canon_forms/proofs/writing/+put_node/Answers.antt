@@ -13,14 +13,14 @@ use Rattle.doc_spans.proofs.ChildSteps.{no_child_left, one_more}
 pub returns-then-not-is_element : goal.returns-then-not-is_element
 returns-then-not-is_element t c =
     let P : List ℕ → Type 0 = λ xs. OnOk c.put_text.result (c.put_text.new.out ≡ c.args.out.now ++ xs) in
-    subst P (ap (λ cs. encode_utf8_all (flat_map text_character cs)) c.text_pieces.ensures ∙ text_written c.args.doc c.args.node (sym c.is_element.ensures ∙ c.if-not-is_element.true)) c.put_text.ensures
+    subst P (ap (λ cs. encode_utf8_all (flat_map text_character cs)) c.text_pieces.ensures ∙ text_written c.args.doc c.args.node c.requires.1 (sym c.is_element.ensures ∙ c.if-not-is_element.true)) c.put_text.ensures
 
 pub put_node-requires : goal.put_node-requires
 put_node-requires t c =
     let next = child_of c.args.doc (path_in c.args.doc c.args.node) (length c.loop-child.yielded) _ _ c.in-Some.child c.in-Some.ensures.steps c.loop-child.invariant.2 in
     let less : size_in c.args.doc c.in-Some.child < size_in c.args.doc c.args.node = smaller c.args.doc c.args.node c.in-Some.child _ _ (sym c.is_element.ensures ∙ c.if-not-is_element.false) next in
     let P : ℕ → Type 0 = λ n. size_in c.args.doc c.in-Some.child < n in
-    (subst P c.decreases less, next.within)
+    (subst P c.decreases less, (next.within, c.requires.1))
 
 pub loop-child-preserved : goal.loop-child-preserved
 loop-child-preserved t c =

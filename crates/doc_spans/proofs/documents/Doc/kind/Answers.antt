@@ -1,13 +1,8 @@
-use Rattle.std.proofs.Common.{◌≡◌, ℕ, zero, suc, Option, Some, None, refl, sym, ◌∙◌, ap, subst}
+use Rattle.std.proofs.Common.{◌≡◌, ℕ, zero, suc, Option, Some, None, refl, sym, ◌∙◌, ap}
 use Rattle.std.proofs.Math.Logic.{∥∥₁_elim}
 use Rattle.std.proofs.Math.Nat.{ℕ_set}
-use Rattle.std.specs.Prelude.{option_map, IfSome}
-use Rattle.document_model.specs.Places.{Place}
-use Rattle.document_model.specs.Tree.{node_at}
-use Rattle.document_model.specs.Documents.{document_of}
 use Rattle.doc_spans.specs.declared.rows.Kind.{Kind}
 use Rattle.doc_spans.specs.declared.rows.Kind.TheVariants.{Element, Text, Comment, Pi}
-use Rattle.doc_spans.specs.Shown.{kind_of}
 use Rattle.doc_spans.proofs.documents.Doc.kind.Goals as goal
 
 -- a kind as a number, and back

@@ -1,4 +1,4 @@
-use Rattle.std.proofs.Common.{◌≡◌, ◌∙◌, ap}
+use Rattle.std.proofs.Common.{◌∙◌, ap}
 use Rattle.std.specs.Str.{chars}
 use Rattle.doc_spans.proofs.Calls.{start_within, name_value, no_name_value}
 use Rattle.doc_spans.proofs.documents.Doc.name_text.Goals as goal

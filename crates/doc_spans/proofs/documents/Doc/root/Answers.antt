@@ -1,8 +1,8 @@
-use Rattle.std.proofs.Common.{◌≡◌, ℕ, suc, List, [], ◌++◌, ◌∷◌, length, refl, ap, subst}
+use Rattle.std.proofs.Common.{◌≡◌, ℕ, suc, List, [], ◌++◌, ◌∷◌, length, subst}
 use Rattle.doc_spans.specs.Rest.{rest}
 use Rattle.doc_spans.specs.Roots.{NoElementBefore}
 use Rattle.doc_spans.specs.Seen.{NameBelow, document_in}
-use Rattle.doc_spans.proofs.ChildSteps.{NextChild, next_child, one_more}
+use Rattle.doc_spans.proofs.ChildSteps.{next_child, one_more}
 use Rattle.doc_spans.proofs.Roots.{found_root, passed_more}
 use Rattle.doc_spans.proofs.documents.Doc.root.Goals as goal
 

@@ -1,4 +1,4 @@
-use Rattle.std.proofs.Common.{◌≡◌, [], subst, sym, ◌∙◌, ap}
+use Rattle.std.proofs.Common.{[], subst, sym, ◌∙◌, ap}
 use Rattle.document_model.specs.Tree.{Path}
 use Rattle.doc_spans.specs.Shown.{children_of}
 use Rattle.doc_spans.proofs.Calls.{name_below}
