@@ -1,3 +1,4 @@
 pub mod Forms
-pub mod Sizes
 pub mod Writing
+pub mod Walks
+pub mod Listed

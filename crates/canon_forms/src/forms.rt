@@ -1,33 +1,53 @@
 //! Canonical forms.
 
-ghost use Rattle.std.specs.Prelude.{◌≡◌, []};
+ghost use Rattle.std.specs.Prelude.{◌≡◌};
+ghost use Rattle.canon_tags.specs.Rules.{rule_in};
 
-/// Prefixes that an exclusive form treats as the inclusive form does (Exclusive XML Canonicalization 1.0, section 3): an
-/// InclusiveNamespaces PrefixList.
-#[derive(Clone, Copy, Debug)]
-pub struct Prefixes<'p> {
-    words: &'p str,
-}
-
-impl<'p> Prefixes<'p> {
-    ghost use Rattle.canon_forms.specs.Forms.{prefixes_in};
-
-    /// No prefix.
-    pub fn none() -> Prefixes<'p>
-        ensures { prefixes_in result ≡ [] }
-    {
-        Prefixes { words: "" }
-    }
-}
+use canon_tags::{Prefixes, Rule};
 
 /// A canonical form.
 #[derive(Clone, Copy, Debug)]
 pub enum Form<'p> {
+    /// Canonical XML 1.0.
+    Inclusive {
+        /// Whether comments are written.
+        comments: bool,
+    },
     /// Exclusive XML Canonicalization 1.0.
     Exclusive {
         /// Whether comments are written.
         comments: bool,
-        /// The prefixes that are treated as in the inclusive form.
+        /// The prefixes that are treated as in the inclusive form (section 3, "InclusiveNamespaces PrefixList").
         prefixes: Prefixes<'p>,
     },
+}
+
+impl<'p> Form<'p> {
+    ghost use Rattle.canon_forms.specs.Forms.{form_in};
+
+    // Which namespace declarations it writes.
+    pub(crate) fn rule(&self) -> Rule<'p>
+        ensures { rule_in result ≡ (form_in self.now).rule }
+    {
+        match *self {
+            Form::Inclusive { comments: _ } => Rule::Inclusive,
+            Form::Exclusive {
+                comments: _,
+                prefixes,
+            } => Rule::Exclusive(prefixes),
+        }
+    }
+
+    // Whether it writes comments.
+    pub(crate) fn has_comments(&self) -> bool
+        ensures { result ≡ (form_in self.now).comments }
+    {
+        match *self {
+            Form::Inclusive { comments } => comments,
+            Form::Exclusive {
+                comments,
+                prefixes: _,
+            } => comments,
+        }
+    }
 }

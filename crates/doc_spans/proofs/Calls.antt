@@ -6,12 +6,13 @@ use Rattle.std.proofs.Math.Bool.{Bool-set}
 use Rattle.std.proofs.Props.{props}
 use Rattle.std.proofs.lemmas.Option.{none-some}
 use Rattle.std.proofs.lemmas.Str.{chars-nil}
-use Rattle.std.specs.Prelude.{option_map, is_some}
+use Rattle.std.specs.Prelude.{Option, option_map, option_and_then, is_some}
 use Rattle.std.specs.Option.{option_map_or}
 use Rattle.std.specs.Str.{chars}
 use Rattle.document_model.specs.Characters.{with_line_ends}
 use Rattle.document_model.specs.Items.{Attribute, Item, Piece, piece_at}
 use Rattle.document_model.specs.Tree.{Node, Path, Element, Text, Comment, Instruction, node_at, count}
+use Rattle.document_model.specs.Scopes.{Tag}
 use Rattle.document_model.specs.Documents.{document_of}
 use Rattle.document_model.specs.Places.{Place}
 use Rattle.document_model.proofs.Joins.{piece_joins}
@@ -26,11 +27,11 @@ use Rattle.doc_spans.specs.declared.documents.NodeId.{NodeId}
 use Rattle.doc_spans.specs.declared.rows.Row.{Row}
 use Rattle.doc_spans.specs.declared.rows.Kind.TheVariants as kinds
 use Rattle.doc_spans.specs.Below.{paths_below}
-use Rattle.doc_spans.specs.Seen.{Has, NameBelow, node_in, nodes_at, name_of_node, text_of_node, attributes_of_node, shown_in, document_in}
+use Rattle.doc_spans.specs.Seen.{Has, NameBelow, node_in, nodes_at, name_of_node, text_of_node, attributes_of_node, tag_of_node, shown_in, document_in}
 use Rattle.doc_spans.specs.Shown.{Shown, IsShownOf, ShowsRow, path_at, kind_of, children_of}
 use Rattle.doc_spans.specs.Texts.{StandFrom, AreTexts, text_added, HoldText, text_between}
 use Rattle.doc_spans.specs.View.{place_of_row}
-use Rattle.doc_spans.specs.Written.{written_name, written_text, written_attributes}
+use Rattle.doc_spans.specs.Written.{written_name, written_text, written_tag}
 use Rattle.doc_spans.proofs.ChildNodes.{children_within, count_is, get_there, path_at_place}
 use Rattle.doc_spans.proofs.Each.{some_is, each_weaker}
 use Rattle.doc_spans.proofs.Named.{head_of}
@@ -148,32 +149,26 @@ pub no_other_value : (bytes : List ℕ) (shown : Shown) (k : ℕ) (row : Row) (x
     → piece_at (drop row.start bytes) ≡ None → xs ≡ option_map_or text_of_node (node_at (document_of bytes) (path_at shown k)) []
 no_other_value bytes shown k row xs whole shows at = from_seen _ _ whole (λ w. absurd (none-some _ (sym at ∙ (node_stands bytes shown k row w shows).0.read)))
 
--- Attributes.
+-- Tags.
 
-attributes_of_head : (node : Node) → attributes_of_node (head node) ≡ attributes_of_node node
-attributes_of_head (Element name attributes inner) = refl
-attributes_of_head (Text cs) = refl
-attributes_of_head (Comment cs) = refl
-attributes_of_head (Instruction target content) = refl
+tag_of_head : (node m : Node) → head node ≡ m → tag_of_node node ≡ tag_of_node m
+tag_of_head (Element name attributes inner) m e = ap tag_of_node e
+tag_of_head (Text cs) m e = ap tag_of_node e
+tag_of_head (Comment cs) m e = ap tag_of_node e
+tag_of_head (Instruction target content) m e = ap tag_of_node e
 
-attributes_by : (found : Found) (node : Node) → Some (head node) ≡ head_of (item_in found) → written_attributes found ≡ attributes_of_node node
-attributes_by item node e = by_found item e
-  where
-    of : (m : Node) (attributes : List Attribute) → Some (head node) ≡ Some m → attributes_of_node m ≡ attributes → attributes ≡ attributes_of_node node
-    of m attributes e f = sym f ∙ sym (ap attributes_of_node (some_is (head node) m e)) ∙ attributes_of_head node
+tag_by : (found : Found) (node : Node) → Some (head node) ≡ head_of (item_in found) → written_tag found ≡ tag_of_node node
+tag_by found.Declaration node e = absurd (none-some (head node) (sym e))
+tag_by (found.StartTag name attributes) node e = sym (tag_of_head node _ (some_is _ _ e))
+tag_by (found.EmptyTag name attributes) node e = sym (tag_of_head node _ (some_is _ _ e))
+tag_by (found.EndTag name) node e = absurd (none-some (head node) (sym e))
+tag_by (found.Character c) node e = sym (tag_of_head node (Text []) (some_is _ _ e))
+tag_by (found.Reference c) node e = sym (tag_of_head node (Text []) (some_is _ _ e))
+tag_by (found.Cdata text) node e = sym (tag_of_head node (Text []) (some_is _ _ e))
+tag_by (found.Comment text) node e = sym (tag_of_head node (Comment _) (some_is _ _ e))
+tag_by (found.Instruction target content) node e = sym (tag_of_head node _ (some_is _ _ e))
 
-    by_found : (found : Found) → Some (head node) ≡ head_of (item_in found) → written_attributes found ≡ attributes_of_node node
-    by_found found.Declaration e = absurd (none-some (head node) (sym e))
-    by_found (found.StartTag name attributes) e = of _ _ e refl
-    by_found (found.EmptyTag name attributes) e = of _ _ e refl
-    by_found (found.EndTag name) e = absurd (none-some (head node) (sym e))
-    by_found (found.Character c) e = of _ [] e refl
-    by_found (found.Reference c) e = of _ [] e refl
-    by_found (found.Cdata text) e = of _ [] e refl
-    by_found (found.Comment text) e = of _ [] e refl
-    by_found (found.Instruction target content) e = of _ [] e refl
-
--- attributes as lists of numbers, and back
+-- a tag as lists of numbers, and back
 abbrev code : List Attribute → List (List ℕ × List ℕ × List ℕ)
 code [] = []
 code (a ∷ attributes) = (a.name.prefix, a.name.local, a.value) ∷ code attributes
@@ -186,22 +181,61 @@ decoded : (attributes : List Attribute) → decode (code attributes) ≡ attribu
 decoded [] = refl
 decoded (a ∷ attributes) = ap (λ as'. a ∷ as') (decoded attributes)
 
-codes_set : IsSet (List (List ℕ × List ℕ × List ℕ))
+abbrev Code : Type 0
+Code = List (List ℕ × List ℕ × List (List ℕ × List ℕ × List ℕ))
+
+abbrev code_tag : Option Tag → Code
+code_tag None = []
+code_tag (Some tag) = (tag.name.prefix, tag.name.local, code tag.attributes) ∷ []
+
+abbrev decode_tag : Code → Option Tag
+decode_tag [] = None
+decode_tag (t ∷ codes) = Some (record { name = record { prefix = t.0; local = t.1 }; attributes = decode t.2 })
+
+decoded_tag : (tag : Option Tag) → decode_tag (code_tag tag) ≡ tag
+decoded_tag None = refl
+decoded_tag (Some tag) = ap (λ as'. Some (record { name = tag.name; attributes = as' })) (decoded tag.attributes)
+
+codes_set : IsSet Code
 codes_set = hlevel props
 
-attributes_seen : {A : Type 0} (x y : List Attribute) → ∥ A ∥₁ → (A → x ≡ y) → x ≡ y
-attributes_seen x y h f = sym (decoded x) ∙ ap decode (∥∥₁_elim h (codes_set (code x) (code y)) (λ a. ap code (f a))) ∙ decoded y
+tag_seen : {A : Type 0} (x y : Option Tag) → ∥ A ∥₁ → (A → x ≡ y) → x ≡ y
+tag_seen x y h f = sym (decoded_tag x) ∙ ap decode_tag (∥∥₁_elim h (codes_set (code_tag x) (code_tag y)) (λ a. ap code_tag (f a))) ∙ decoded_tag y
 
-pub attributes_value : (bytes : List ℕ) (shown : Shown) (k : ℕ) (row : Row) (scanned : Scanned) → ∥ IsShownOf shown bytes ∥₁ → ShowsRow shown k row
+pub tag_value : (bytes : List ℕ) (shown : Shown) (k : ℕ) (row : Row) (scanned : Scanned) → ∥ IsShownOf shown bytes ∥₁ → ShowsRow shown k row
     → piece_at (drop row.start bytes) ≡ Some (piece_in bytes row.start scanned)
-    → written_attributes scanned.found ≡ option_map_or attributes_of_node (node_at (document_of bytes) (path_at shown k)) []
-attributes_value bytes shown k row scanned whole shows at = attributes_seen _ _ whole (λ w.
+    → written_tag scanned.found ≡ option_and_then tag_of_node (node_at (document_of bytes) (path_at shown k))
+tag_value bytes shown k row scanned whole shows at = tag_seen _ _ whole (λ w.
     let seen = (node_stands bytes shown k row w shows).0 in
-    attributes_by scanned.found seen.node (node_item bytes shown k row scanned w shows at) ∙ ap (λ o. option_map_or attributes_of_node o []) (sym seen.named))
+    tag_by scanned.found seen.node (node_item bytes shown k row scanned w shows at) ∙ ap (option_and_then tag_of_node) (sym seen.named))
 
-pub no_attributes_value : (bytes : List ℕ) (shown : Shown) (k : ℕ) (row : Row) (xs : List Attribute) → ∥ IsShownOf shown bytes ∥₁ → ShowsRow shown k row
-    → piece_at (drop row.start bytes) ≡ None → xs ≡ option_map_or attributes_of_node (node_at (document_of bytes) (path_at shown k)) []
-no_attributes_value bytes shown k row xs whole shows at = attributes_seen _ _ whole (λ w. absurd (none-some _ (sym at ∙ (node_stands bytes shown k row w shows).0.read)))
+pub no_tag_value : (bytes : List ℕ) (shown : Shown) (k : ℕ) (row : Row) (tag : Option Tag) → ∥ IsShownOf shown bytes ∥₁ → ShowsRow shown k row
+    → piece_at (drop row.start bytes) ≡ None → tag ≡ option_and_then tag_of_node (node_at (document_of bytes) (path_at shown k))
+no_tag_value bytes shown k row tag whole shows at = tag_seen _ _ whole (λ w. absurd (none-some _ (sym at ∙ (node_stands bytes shown k row w shows).0.read)))
+
+no_element : (node : Node) → (kind_of node ≡ kinds.Element → ⊥) → None ≡ tag_of_node node
+no_element (Element name attributes inner) other = absurd (other refl)
+no_element (Text cs) other = refl
+no_element (Comment cs) other = refl
+no_element (Instruction target content) other = refl
+
+-- another node has none
+pub other_tag : (bytes : List ℕ) (shown : Shown) (k : ℕ) (row : Row) → ∥ IsShownOf shown bytes ∥₁ → ShowsRow shown k row → (row.kind ≡ kinds.Element → ⊥)
+    → None ≡ option_and_then tag_of_node (node_at (document_of bytes) (path_at shown k))
+other_tag bytes shown k row whole shows other = tag_seen _ _ whole (λ w.
+    let seen = (node_stands bytes shown k row w shows).0 in
+    no_element seen.node (λ e. other (sym (node_kind bytes shown k row w shows) ∙ e)) ∙ ap (option_and_then tag_of_node) (sym seen.named))
+
+-- the attributes of a node are those of its tag
+pub attributes_of_tag : (found : Option Node) (tag : Option Tag) → tag ≡ option_and_then tag_of_node found → option_map_or (λ t. t.attributes) tag [] ≡ option_map_or attributes_of_node found []
+attributes_of_tag found tag e = ap (λ t. option_map_or (λ t. t.attributes) t []) e ∙ by_node found
+  where
+    by_node : (found : Option Node) → option_map_or (λ t. t.attributes) (option_and_then tag_of_node found) [] ≡ option_map_or attributes_of_node found []
+    by_node None = refl
+    by_node (Some (Element name attributes inner)) = refl
+    by_node (Some (Text cs)) = refl
+    by_node (Some (Comment cs)) = refl
+    by_node (Some (Instruction target content)) = refl
 
 -- Names.
 

@@ -29,6 +29,7 @@ nodes_of_node document (k ∷ path) node e = ap (λ o. option_map_or below o no_
 -- the next child, and those behind it
 pub record NextChild (doc : Doc) (path : Path) (i number : ℕ) (numbers : List ℕ) : Type 0 where
   pub within : number < length (shown_in doc).places
+  pub at : path_at (shown_in doc) number ≡ path ++ i ∷ []
   pub node : Node
   pub named : node_at (document_in doc) (path_at (shown_in doc) number) ≡ Some node
   pub nth_is : nth i (nodes_at (document_in doc) path) ≡ Some node
@@ -59,6 +60,7 @@ next_child doc path i number numbers h = by_many (count nodes - i) refl h.paths
         let q : path_at (shown_in doc) number ∷ map (path_at (shown_in doc)) numbers ≡ (path ++ i ∷ []) ∷ paths_below path (suc i) m = p ∙ ap (paths_below path i) e in
         let found = nth_there i (nodes_at (document_in doc) path) (omega (arith, e)) in record {
           within = h.within zero number (omega arith);
+          at = ap first q;
           node = found.0;
           named = ap (node_at (document_in doc)) (ap first q) ∙ child_at (document_in doc) path i ∙ found.1;
           nth_is = found.1;

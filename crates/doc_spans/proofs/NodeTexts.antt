@@ -1,28 +1,21 @@
 -- What the bytes of a node spell, as far as the calls on a document need it.
-use Rattle.std.proofs.Common.{◌≡◌, ℕ, zero, suc, ◌≤◌, List, [], ◌∷◌, ◌++◌, length, drop, Some, sym, ap, subst, arith, length-append}
+use Rattle.std.proofs.Common.{◌≡◌, ℕ, zero, suc, ◌≤◌, List, [], ◌∷◌, ◌++◌, length, Some, sym, ap, subst, arith, length-append}
 use Rattle.std.proofs.Math.Logic.{∥∥₁_elim}
 use Rattle.std.proofs.Props.{props}
-use Rattle.std.proofs.lemmas.Option.{none-some}
 use Rattle.std.proofs.lemmas.List.Sorted.{IsPermutation-sym, All-permutation}
 use Rattle.std.specs.Prelude.{slice_get, flat_map}
 use Rattle.std.specs.List.{All}
-use Rattle.document_model.specs.Items.{Item, declaration, start_tag, empty_tag, end_tag, character, reference, cdata, comment, instruction}
-use Rattle.document_model.specs.Tree.{Node, Element, Text, Comment, Instruction, no_nodes}
 use Rattle.document_model.specs.Documents.{run, limits}
 use Rattle.document_model.specs.Places.{Place, places_of}
-use Rattle.document_model.specs.Plain.{IsPlain, IsPlainPiece, IsPlainNode}
 use Rattle.document_model.proofs.Joins.{run_joins}
-use Rattle.document_model.proofs.PlainItems.{plain_drop, plain_item}
 use Rattle.doc_spans.specs.Marks.{size, places_after}
 use Rattle.doc_spans.specs.Shown.{Shown, IsShownOf}
 use Rattle.doc_spans.specs.View.{Each}
-use Rattle.doc_spans.proofs.Each.{each_get, each_weaker, some_is}
+use Rattle.doc_spans.proofs.Each.{each_get, each_weaker}
 use Rattle.doc_spans.proofs.Marks.{EndsBy, ended, onto}
-use Rattle.doc_spans.proofs.Named.{head_of}
 use Rattle.doc_spans.proofs.Nodes.{IsSeen, places_seen}
 use Rattle.doc_spans.proofs.Over.{size_onto}
 use Rattle.doc_spans.proofs.Run.{places_of_run}
-use Rattle.doc_spans.proofs.Stays.{head}
 use Rattle.doc_spans.proofs.TextPlaces.{each_both}
 
 -- Each place of a tree is one of the document.
@@ -56,30 +49,6 @@ stands_at shown bytes k place is e =
     each_get (Stands bytes) shown.places k place
     (each_of_all (Stands bytes) shown.places
     (All-permutation (Stands bytes) (places_of bytes) shown.places (IsPermutation-sym shown.places (places_of bytes) is.tree.numbered) (all_of_each (Stands bytes) (places_of bytes) (places_stand bytes)))) e
-
--- Plain documents.
-
-from_head : (node : Node) → IsPlainNode (head node) → IsPlainNode node
-from_head (Element name attributes nodes) h = h
-from_head (Text cs) h = h
-from_head (Comment cs) h = h
-from_head (Instruction target content) h = h
-
-plain_head : (item : Item) (node : Node) (text : List ℕ) → Some (head node) ≡ head_of item → IsPlainPiece item text → IsPlainNode node
-plain_head declaration node text e h = absurd h
-plain_head (start_tag name attributes) node text e h = from_head node (subst IsPlainNode (sym (some_is (head node) (Element name attributes no_nodes) e)) h)
-plain_head (empty_tag name attributes) node text e h = from_head node (subst IsPlainNode (sym (some_is (head node) (Element name attributes no_nodes) e)) h)
-plain_head (end_tag name) node text e h = absurd (none-some (head node) (sym e))
-plain_head (character c) node text e h = from_head node (subst IsPlainNode (sym (some_is (head node) (Text []) e)) tt)
-plain_head (reference c) node text e h = absurd h
-plain_head (cdata cs) node text e h = absurd h
-plain_head (comment cs) node text e h = absurd h
-plain_head (instruction target content) node text e h = absurd h
-
--- each node of a plain document is plain
-pub plain_node : (bytes : List ℕ) (place : Place) → IsPlain bytes → (seen : IsSeen bytes place) → IsPlainNode seen.node
-plain_node bytes place h seen =
-    plain_head seen.piece.item seen.node seen.piece.text seen.begun (plain_item (drop place.start bytes) (seen.piece, drop place.first_end bytes) (plain_drop place.start bytes h) seen.read)
 
 -- For the calls.
 

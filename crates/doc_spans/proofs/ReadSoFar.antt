@@ -15,7 +15,7 @@ use Rattle.doc_spans.specs.Shown.{shown_of, IsShownOf}
 use Rattle.doc_spans.specs.Standing.{Standing, standing_of, is_deep, nodes_added, is_one_too_many, legal_here, legal_within_here, fault_here, is_complete, after}
 use Rattle.doc_spans.specs.Faults.{fault_in, IsFirstFault}
 use Rattle.doc_spans.specs.declared.faults.DocFault.{DocFault}
-use Rattle.doc_spans.specs.declared.faults.DocFault.TheVariants.{Item, Doctype, Depth, Nodes, End, OutOfMemory, NotBuilt}
+use Rattle.doc_spans.specs.declared.faults.DocFault.TheVariants.{Item, Doctype, Depth, Nodes, End, OutOfMemory}
 use Rattle.xa_io.specs.Causes.{counted}
 use Rattle.doc_spans.proofs.Marks.{onto}
 use Rattle.doc_spans.proofs.Links.{Built}
@@ -149,7 +149,6 @@ fault_found (Depth at) bytes f h k = h ∙ sym k
 fault_found (Nodes at) bytes f h k = h ∙ sym k
 fault_found End bytes f h k = h ∙ sym k
 fault_found OutOfMemory bytes f h k = tt
-fault_found (NotBuilt at) bytes f h k = absurd (none-some f k)
 
 -- so many steps were counted from a first count on
 abbrev pub CountedTo : ℕ → ℕ → ℕ → Type 0

@@ -1,5 +1,5 @@
 -- The scope of declarations, over the tags of the elements that are open.
-use Rattle.std.proofs.Common.{◌≡◌, ℕ, zero, suc, ◌-◌, ◌<◌, Bool, true, false, ◌&&◌, List, [], ◌∷◌, ◌++◌, length, take, codes, get_or, Option, Some, is_some, refl, sym, ◌∙◌, ap, arith}
+use Rattle.std.proofs.Common.{◌≡◌, ℕ, zero, suc, ◌-◌, ◌<◌, Bool, true, false, ◌&&◌, List, [], ◌∷◌, ◌++◌, length, take, codes, cond, get_or, Option, Some, None, is_some, refl, sym, ◌∙◌, ap, arith}
 use Rattle.std.proofs.lemmas.Option.{none-some}
 use Rattle.std.proofs.lemmas.Str.{chars-nil, chars-IsAscii}
 use Rattle.std.specs.Prelude.{slice_get}
@@ -12,7 +12,7 @@ use Rattle.xml_items.specs.Found.{value_in, IsValueText}
 use Rattle.xml_items.proofs.AsciiTexts.{ascii_from}
 use Rattle.doc_spans.specs.declared.open_tags.OpenTag.{OpenTag}
 use Rattle.doc_spans.specs.OpenTags.{tag_in, tags_in}
-use Rattle.doc_spans.specs.ScopesIn.{names_in, declares_soundly, names_soundly}
+use Rattle.doc_spans.specs.ScopesIn.{bound_space, names_in, declares_soundly, names_soundly}
 use Rattle.doc_spans.proofs.Tags.{tags_push}
 
 pub default_prefix : (a : Attribute) → is_empty a.name.prefix ≡ true → (a.name.local is codes "xmlns") ≡ true → declared_prefix a ≡ Some []
@@ -68,11 +68,20 @@ get_here [] k tag h e = absurd (omega (arith, h))
 get_here (first ∷ tags) zero tag h e = let f : OpenTag → Option OpenTag = λ t. Some t in ap f (sym e)
 get_here (first ∷ tags) (suc k) tag h e = get_here tags k tag (omega (arith, h)) e
 
-pub xml_bound : (prefix : List ℕ) (tags : List Tag) → (prefix is codes "xml") ≡ true → space_of prefix tags ≡ xml_space
-xml_bound prefix tags e = rw e refl
+pub xml_bound : (prefix : List ℕ) → (prefix is codes "xml") ≡ true → Some xml_space ≡ bound_space prefix
+xml_bound prefix e = rw e refl
 
-pub xmlns_bound : (prefix : List ℕ) (tags : List Tag) → (prefix is codes "xml") ≡ false → (prefix is codes "xmlns") ≡ true → space_of prefix tags ≡ xmlns_space
-xmlns_bound prefix tags e f = rw (e, f) refl
+pub xmlns_bound : (prefix : List ℕ) → (prefix is codes "xml") ≡ false → (prefix is codes "xmlns") ≡ true → Some xmlns_space ≡ bound_space prefix
+xmlns_bound prefix e f = rw (e, f) refl
+
+-- the value of a prefix is the one that no declaration changes, or the one that is declared
+pub space_by_bound : (prefix : List ℕ) (tags : List Tag) (found : Option (List ℕ)) → found ≡ bound_space prefix → value_or found (declared_space prefix tags) ≡ space_of prefix tags
+space_by_bound prefix tags found e = ap (λ o. value_or o (declared_space prefix tags)) e ∙ by_prefix (prefix is codes "xml") (prefix is codes "xmlns")
+  where
+    by_prefix : (x y : Bool) → value_or (cond x (Some xml_space) (cond y (Some xmlns_space) None)) (declared_space prefix tags) ≡ cond x xml_space (cond y xmlns_space (declared_space prefix tags))
+    by_prefix true y = refl
+    by_prefix false true = refl
+    by_prefix false false = refl
 
 three : (x y z : Bool) → (x && (y && z)) ≡ x && y && z
 three true y z = refl

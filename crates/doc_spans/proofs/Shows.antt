@@ -1,12 +1,14 @@
 -- What a row of a tree shows.
 use Rattle.std.proofs.Common.{◌≡◌, ℕ, zero, suc, ◌+◌, ◌-◌, ◌<◌, ◌≤◌, Bool, true, false, cond, ◌&&◌, List, [], ◌∷◌, ◌++◌, length, take, drop, Option, Some, None, refl, sym, ◌∙◌, ap, subst, subst₂, arith, nat_eq, get_or, ◌⊎◌, inl, inr}
 use Rattle.std.proofs.lemmas.Option.{none-some}
-use Rattle.std.proofs.lemmas.Bool.{ne_eqb, eq-eqb}
+use Rattle.std.proofs.lemmas.Bool.{ne_eqb, eq-eqb, eqb-true}
 use Rattle.std.proofs.lemmas.Bool.Decides.{eqb_tells}
 use Rattle.std.specs.Option.{option_map_or}
 use Rattle.std.specs.Prelude.{map, slice_get, IsTrue}
 use Rattle.document_model.specs.Tree.{Path}
 use Rattle.document_model.specs.Places.{Place}
+use Rattle.std.specs.Str.{bytes_eq}
+use Rattle.xml_items.proofs.AsciiTexts.{iff_same}
 use Rattle.doc_spans.specs.declared.rows.Row.{Row}
 use Rattle.doc_spans.specs.declared.rows.Kind.{Kind}
 use Rattle.doc_spans.specs.View.{none, siblings, under, paths_of, parents_of, place_of_row, placed, places_of_rows, kinds_of_rows, next_from, Distinct, IsTree}
@@ -37,7 +39,7 @@ child_apart (k ∷ outer) (j ∷ other) i h = elim (eqb_tells k j) [
   | inr t ↦ ap (λ b. b && is_child outer (other ++ i ∷ [])) t.0
 ]
 
-outer_more : (path : Path) (i : ℕ) → outer_path (path ++ i ∷ []) ≡ path
+pub outer_more : (path : Path) (i : ℕ) → outer_path (path ++ i ∷ []) ≡ path
 outer_more [] i = refl
 outer_more (k ∷ []) i = refl
 outer_more (k ∷ j ∷ path) i = ap (λ p. k ∷ p) (outer_more (j ∷ path) i)
@@ -379,3 +381,14 @@ begin_top (row ∷ rows) shown t view n e =
 -- no number has the path of the document
 pub top_path : (rows : List Row) → IsTree rows → path_at (shown_of rows) none ≡ []
 top_path rows t = path_is rows none ∙ under_none rows t
+
+-- two numbers of one node are one number
+pub same_number : (rows : List Row) (shown : Shown) → IsTree rows → shown_of rows ≡ shown → (a b : ℕ) → a < length shown.places → b < length shown.places
+    → nat_eq a b ≡ bytes_eq (path_at shown a) (path_at shown b)
+same_number rows shown t view a b h k =
+    let P : Shown → Type 0 = λ s. nat_eq a b ≡ bytes_eq (path_at s a) (path_at s b) in
+    let e = ap (λ (s : Shown). length s.places) view in
+    let many = shown_many rows in
+    let parents = parents_many rows in
+    subst P view (iff_same (nat_eq a b) (path_at (shown_of rows) a) (path_at (shown_of rows) b) (λ same. ap (path_at (shown_of rows)) (eqb-true a b same))
+    (λ paths. eq-eqb a b (under_same rows t a b (inl (omega (arith, h, e, many, parents))) (inl (omega (arith, k, e, many, parents))) (sym (path_is rows a) ∙ paths ∙ path_is rows b))))

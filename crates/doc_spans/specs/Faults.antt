@@ -2,10 +2,9 @@
 use Rattle.std.specs.Prelude.{◌≡◌, ℕ, List, Option, Some, None}
 use Rattle.document_model.specs.Documents as documents
 use Rattle.document_model.specs.Documents.{Fault, BadItem, TooMany, fault}
-use Rattle.document_model.specs.Plain.{IsPlain, first_not_plain}
 use Rattle.doc_spans.specs.Standing.{Standing, legal_within_here, fault_here}
 use Rattle.doc_spans.specs.declared.faults.DocFault.{DocFault}
-use Rattle.doc_spans.specs.declared.faults.DocFault.TheVariants.{Item, Doctype, Depth, Nodes, End, OutOfMemory, NotBuilt}
+use Rattle.doc_spans.specs.declared.faults.DocFault.TheVariants.{Item, Doctype, Depth, Nodes, End, OutOfMemory}
 
 -- the number of a fault, for a line that tells of it
 abbrev pub fault_number : DocFault → ℕ
@@ -15,7 +14,6 @@ fault_number (Depth at) = 3
 fault_number (Nodes at) = 4
 fault_number End = 5
 fault_number OutOfMemory = 6
-fault_number (NotBuilt at) = 7
 
 -- and its place
 abbrev pub fault_place : DocFault → Option ℕ
@@ -25,7 +23,6 @@ fault_place (Depth at) = Some at
 fault_place (Nodes at) = Some at
 fault_place End = None
 fault_place OutOfMemory = None
-fault_place (NotBuilt at) = Some at
 
 -- the fault of the bytes that a fault in the code says, where it says one
 abbrev pub fault_in : DocFault → Option Fault
@@ -35,7 +32,6 @@ fault_in (Depth at) = Some (documents.Depth at)
 fault_in (Nodes at) = Some (TooMany at)
 fault_in End = Some documents.End
 fault_in OutOfMemory = None
-fault_in (NotBuilt at) = None
 
 -- what a fault says of the bytes: it is theirs, with its place
 abbrev pub IsFirstFault : DocFault → List ℕ → Type 0
@@ -45,13 +41,6 @@ IsFirstFault (Depth at) bytes = fault bytes ≡ Some (documents.Depth at)
 IsFirstFault (Nodes at) bytes = fault bytes ≡ Some (TooMany at)
 IsFirstFault End bytes = fault bytes ≡ Some documents.End
 IsFirstFault OutOfMemory bytes = Unit {0}
-IsFirstFault (NotBuilt at) bytes = ⊥
-
--- and while documents are read that are plain alone: the first place that isn't plain comes before all others
-abbrev pub IsFaultOf : DocFault → List ℕ → Type 0
-IsFaultOf OutOfMemory bytes = Unit {0}
-IsFaultOf (NotBuilt at) bytes = first_not_plain bytes ≡ Some at
-IsFaultOf e bytes = IsPlain bytes × IsFirstFault e bytes
 
 -- no legal item within the limits stands at a place, and this is the fault
 abbrev pub MissesItem : Standing → ℕ → List ℕ → DocFault → Type 0

@@ -1,10 +1,10 @@
 -- The elements in whose scope a tag's names stand, in the code.
-use Rattle.std.specs.Prelude.{Bool, not, ◌&&◌, List, ◌∷◌, map, codes}
+use Rattle.std.specs.Prelude.{ℕ, Bool, not, ◌&&◌, if◌then◌else◌, List, ◌∷◌, map, codes, Option, Some, None}
 use Rattle.std.specs.List.{list_all}
 use Rattle.document_model.specs.Characters.{◌is◌}
 use Rattle.document_model.specs.Names.{Expanded}
 use Rattle.document_model.specs.Items.{Attribute}
-use Rattle.document_model.specs.Scopes.{Tag, attribute_name, is_sound_declaration, is_declared, are_distinct}
+use Rattle.document_model.specs.Scopes.{Tag, xml_space, xmlns_space, attribute_name, is_sound_declaration, is_declared, are_distinct}
 use Rattle.doc_spans.specs.declared.soundness.Scope.{Scope}
 use Rattle.doc_spans.specs.OpenTags.{tag_in, tags_in}
 
@@ -23,3 +23,7 @@ declares_soundly outer tag = list_all is_sound_declaration tag.attributes && not
 
 abbrev pub names_soundly : List Tag → Tag → Bool
 names_soundly outer tag = list_all (λ a. is_declared (tag ∷ outer) a.name) tag.attributes && are_distinct (names_in (tag ∷ outer) tag.attributes)
+
+-- the namespace name of a prefix that no declaration changes
+abbrev pub bound_space : List ℕ → Option (List ℕ)
+bound_space prefix = if prefix is codes "xml" then Some xml_space else (if prefix is codes "xmlns" then Some xmlns_space else None)

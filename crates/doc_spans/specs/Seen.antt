@@ -1,5 +1,5 @@
 -- What a clause sees of a document: its bytes, the tree that they spell, and which node each number names.
-use Rattle.std.specs.Prelude.{◌≡◌, ℕ, ◌-◌, ◌<◌, List, [], ◌∷◌, length, Option, slice_get, map}
+use Rattle.std.specs.Prelude.{◌≡◌, ℕ, ◌-◌, ◌<◌, List, [], ◌∷◌, length, Option, None, Some, slice_get, map, option_and_then}
 use Rattle.std.specs.List.{All}
 use Rattle.std.specs.Option.{option_map_or}
 use Rattle.doc_spans.specs.declared.documents.Doc.{Doc}
@@ -7,6 +7,7 @@ use Rattle.doc_spans.specs.declared.documents.NodeId.{NodeId}
 use Rattle.document_model.specs.Names.{spelled}
 use Rattle.document_model.specs.Items.{Attribute}
 use Rattle.document_model.specs.Tree.{Node, Nodes, Path, Element, Text, Comment, Instruction, no_nodes, node_at, below, count}
+use Rattle.document_model.specs.Scopes.{Tag}
 use Rattle.document_model.specs.Places.{Place}
 use Rattle.document_model.specs.Documents.{document_of}
 use Rattle.doc_spans.specs.Below.{paths_below}
@@ -79,3 +80,13 @@ attributes_of_node (Instruction target content) = []
 
 abbrev pub attributes_in : Doc → NodeId → List Attribute
 attributes_in doc node = option_map_or attributes_of_node (node_in doc node) []
+
+-- the start tag of a node, or its empty tag; only an element has one
+abbrev pub tag_of_node : Node → Option Tag
+tag_of_node (Element name attributes nodes) = Some (record { name = name; attributes = attributes })
+tag_of_node (Text cs) = None
+tag_of_node (Comment cs) = None
+tag_of_node (Instruction target content) = None
+
+abbrev pub tag_of : Doc → NodeId → Option Tag
+tag_of doc node = option_and_then tag_of_node (node_in doc node)

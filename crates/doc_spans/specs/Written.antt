@@ -1,8 +1,8 @@
 -- The parts of the items that a scanner finds, which nodes are made of.
-use Rattle.std.specs.Prelude.{ℕ, List, []}
+use Rattle.std.specs.Prelude.{ℕ, List, [], Option, None, Some}
 use Rattle.std.specs.Str.{chars}
-use Rattle.document_model.specs.Items.{Attribute}
-use Rattle.xml_items.specs.Found.{attributes_in}
+use Rattle.document_model.specs.Scopes.{Tag}
+use Rattle.xml_items.specs.Found.{name_in, attributes_in}
 use Rattle.xml_items.specs.declared.items.Found.{Found}
 use Rattle.xml_items.specs.declared.items.Found.TheVariants.{Declaration, StartTag, EmptyTag, EndTag, Character, Reference, Cdata, Comment, Instruction}
 
@@ -30,14 +30,14 @@ written_text (Cdata text) = []
 written_text (Comment text) = text.now
 written_text (Instruction target content) = content.now
 
--- the attributes of a tag
-abbrev pub written_attributes : Found → List Attribute
-written_attributes Declaration = []
-written_attributes (StartTag name attributes) = attributes_in (chars attributes.now)
-written_attributes (EmptyTag name attributes) = attributes_in (chars attributes.now)
-written_attributes (EndTag name) = []
-written_attributes (Character c) = []
-written_attributes (Reference c) = []
-written_attributes (Cdata text) = []
-written_attributes (Comment text) = []
-written_attributes (Instruction target content) = []
+-- the tag that it is
+abbrev pub written_tag : Found → Option Tag
+written_tag Declaration = None
+written_tag (StartTag name attributes) = Some (record { name = name_in (chars name.now); attributes = attributes_in (chars attributes.now) })
+written_tag (EmptyTag name attributes) = Some (record { name = name_in (chars name.now); attributes = attributes_in (chars attributes.now) })
+written_tag (EndTag name) = None
+written_tag (Character c) = None
+written_tag (Reference c) = None
+written_tag (Cdata text) = None
+written_tag (Comment text) = None
+written_tag (Instruction target content) = None

@@ -3,14 +3,18 @@
 ghost use Rattle.std.specs.Prelude.{◌≡◌, Some, IfSome, IfNone, []};
 ghost use Rattle.std.specs.Prelude.{option_map};
 ghost use Rattle.std.specs.Str.{chars};
+ghost use Rattle.document_model.specs.Characters.{◌is◌};
+ghost use Rattle.document_model.specs.NodeSets.{is_within};
 ghost use Rattle.xml_items.specs.Items.{IsRead};
 ghost use Rattle.doc_spans.specs.AttributesLeft.{attributes_left};
+ghost use Rattle.doc_spans.specs.OpenTags.{tag_in};
 ghost use Rattle.doc_spans.specs.Pieces.{characters_left};
-ghost use Rattle.doc_spans.specs.Written.{written_name, written_text, written_attributes};
+ghost use Rattle.doc_spans.specs.Written.{written_name, written_text, written_tag};
 ghost use Rattle.doc_spans.specs.Shown.{IsShownOf};
 
 use crate::attributes::Attrs;
 use crate::child_nodes::Children;
+use crate::open_tags::OpenTag;
 use crate::rows::{Kind, NONE};
 use crate::texts::Pieces;
 use crate::trees::Tree;
@@ -41,7 +45,7 @@ pub struct Doc<'a> {
 impl<'a> Doc<'a> {
     ghost use Rattle.doc_spans.specs.Rest.{rest};
     ghost use Rattle.doc_spans.specs.Shown.{kind_of, outer_path};
-    ghost use Rattle.doc_spans.specs.Seen.{Has, NameBelow, bytes_in, shown_in, path_in, place_in, node_in, name_in, text_in, attributes_in};
+    ghost use Rattle.doc_spans.specs.Seen.{Has, NameBelow, bytes_in, shown_in, path_in, place_in, node_in, name_in, text_in, attributes_in, tag_of};
 
     /// A document by its bytes and their tree.
     pub fn of(bytes: &'a [u8], tree: &'a Tree) -> Doc<'a>
@@ -105,6 +109,33 @@ impl<'a> Doc<'a> {
         }
     }
 
+    /// Whether two numbers name one node.
+    pub fn is_same(self, a: NodeId, b: NodeId) -> bool
+        requires first { Has self a }
+        requires second { Has self b }
+        ensures { result ≡ (path_in self.entry a is path_in self.entry b) }
+    {
+        self.tree.is_same(a.0, b.0)
+    }
+
+    /// Whether a node is the one at the top, or below it. It takes one step for each element between them.
+    pub fn is_within(self, top: NodeId, node: NodeId) -> bool
+        requires top { Has self top }
+        requires node { Has self node }
+        ensures { result ≡ is_within (path_in self.entry top) (path_in self.entry node) }
+    {
+        let mut at = node;
+        'outward: loop {
+            if self.is_same(top, at) {
+                return true;
+            }
+            match self.parent(at) {
+                Some(parent) => at = parent,
+                None => return false,
+            }
+        }
+    }
+
     /// What kind of node it is.
     pub fn kind(self, node: NodeId) -> Kind
         requires { Has self node }
@@ -148,14 +179,28 @@ impl<'a> Doc<'a> {
         }
     }
 
+    /// The start tag or the empty tag of an element, as it is written; none for another node.
+    pub fn open_tag(self, node: NodeId) -> Option<OpenTag<'a>>
+        requires { Has self node }
+        ensures { option_map tag_in result ≡ tag_of self.entry node }
+    {
+        let row = self.tree.row(node.0);
+        match row.kind {
+            Kind::Element => match next_item(self.bytes, row.start as usize) {
+                Some(scanned) => tag_found(scanned.found),
+                None => None,
+            },
+            _ => None,
+        }
+    }
+
     /// The attributes and namespace declarations of an element, in document order; none for another node.
     pub fn attrs(self, node: NodeId) -> Attrs<'a>
         requires { Has self node }
         ensures { attributes_left result ≡ attributes_in self.entry node }
     {
-        let start = self.tree.row(node.0).start;
-        match next_item(self.bytes, start as usize) {
-            Some(scanned) => return attributes_found(scanned.found),
+        match self.open_tag(node) {
+            Some(tag) => return Attrs::of(tag.attributes),
             None => return Attrs::none(),
         }
     }
@@ -200,13 +245,16 @@ fn text_found<'a>(found: Found<'a>) -> &'a str
     }
 }
 
-// The attributes of a tag.
-fn attributes_found<'a>(found: Found<'a>) -> Attrs<'a>
+// The tag that an item is.
+fn tag_found<'a>(found: Found<'a>) -> Option<OpenTag<'a>>
     requires { IsRead found }
-    ensures { attributes_left result ≡ written_attributes found.entry }
+    ensures { option_map tag_in result ≡ written_tag found.entry }
 {
     match found {
-        Found::StartTag(_, attributes) | Found::EmptyTag(_, attributes) => Attrs::of(attributes),
-        _ => Attrs::none(),
+        Found::StartTag(name, attributes) | Found::EmptyTag(name, attributes) => Some(OpenTag {
+            name,
+            attributes,
+        }),
+        _ => None,
     }
 }

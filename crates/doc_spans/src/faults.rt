@@ -20,8 +20,6 @@ pub enum DocFault {
     End,
     /// There was no memory.
     OutOfMemory,
-    /// A byte or a pair of bytes stands there that a plain document doesn't have.
-    NotBuilt { at: u32 },
 }
 
 impl DocFault {
@@ -38,7 +36,6 @@ impl DocFault {
             DocFault::Nodes { .. } => 4,
             DocFault::End => 5,
             DocFault::OutOfMemory => 6,
-            DocFault::NotBuilt { .. } => 7,
         }
     }
 
@@ -50,8 +47,7 @@ impl DocFault {
             DocFault::Item { at }
             | DocFault::Doctype { at }
             | DocFault::Depth { at }
-            | DocFault::Nodes { at }
-            | DocFault::NotBuilt { at } => Some(*at),
+            | DocFault::Nodes { at } => Some(*at),
             DocFault::End | DocFault::OutOfMemory => None,
         }
     }

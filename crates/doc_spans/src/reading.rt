@@ -1,12 +1,11 @@
 //! Reading a document: its legal items, one after another, and the rows that they make.
 
 ghost use Rattle.std.specs.Prelude.{◌≡◌, ◌<◌, ◌≤◌, ◌+◌, drop, length, Some, IfSome, IfOk, IfErr, OnOk, option_map, not, ◌&&◌, if◌then◌else◌};
-ghost use Rattle.document_model.specs.Plain.{IsPlain};
 ghost use Rattle.document_model.specs.Documents.{limits, Depth, TooMany};
 ghost use Rattle.xml_items.specs.Items.{item_in, IsRead};
 ghost use Rattle.xml_items.specs.Scanned.{piece_in};
 ghost use Rattle.doc_spans.specs.Standing.{is_deep, is_one_too_many, legal_here, fault_with, legal_within_here, run_here, after};
-ghost use Rattle.doc_spans.specs.Faults.{fault_in, MissesItem, IsFirstFault, IsFaultOf};
+ghost use Rattle.doc_spans.specs.Faults.{fault_in, MissesItem, IsFirstFault};
 ghost use Rattle.doc_spans.specs.Kept.{standing_in};
 ghost use Rattle.doc_spans.specs.Marks.{shape_of};
 ghost use Rattle.doc_spans.specs.Building.{state_of, step};
@@ -19,7 +18,6 @@ ghost use Rattle.xa_io.specs.Causes.{counted};
 
 use crate::building::Builder;
 use crate::faults::DocFault;
-use crate::plain::first_not_plain;
 use crate::rows::{Kind, Shape};
 use crate::standing::Standing;
 use crate::trees::Tree;
@@ -33,22 +31,17 @@ use xml_items::texts::is_empty;
 impl Tree {
     /// Reads a document, and counts one step for each of its bytes.
     ///
-    /// Ok exactly where the bytes are plain and spell a document of at most 256 elements inside each other and 1,048,576 nodes, as far
-    /// as there is memory; the tree is that document's. Else the fault is the first, with its place: XML 1.0, "Well-Formed XML
-    /// Documents"; Namespaces in XML 1.0. The bytes are at most 16,777,216.
+    /// Ok exactly where the bytes spell a document of at most 256 elements inside each other and 1,048,576 nodes, as far as there is
+    /// memory; the tree is that document's. Else the fault is the first, with its place: XML 1.0, "Well-Formed XML Documents";
+    /// Namespaces in XML 1.0. The bytes are at most 16,777,216.
     pub fn read<L>(alloc: Global, bytes: &[u8], steps: &mut Steps<L>) -> Result<Tree, DocFault>
         requires { length bytes.now ≤ 16777216 }
-        ensures tree { IfOk result (λ tree. IsPlain bytes.now × IsShownOf tree bytes.now) }
-        ensures fault { IfErr result (λ e. IsFaultOf e bytes.now) }
+        ensures tree { IfOk result (λ tree. IsShownOf tree bytes.now) }
+        ensures fault { IfErr result (λ e. IsFirstFault e bytes.now) }
         ensures steps { OnOk result (steps.new ≡ counted steps.old (length bytes.now)) }
     {
-        match first_not_plain(bytes) {
-            Some(at) => Err(DocFault::NotBuilt { at: at as u32 }),
-            None => {
-                let builder = read_rows(alloc, bytes, steps)?;
-                Ok(builder.finish())
-            }
-        }
+        let builder = read_rows(alloc, bytes, steps)?;
+        Ok(builder.finish())
     }
 }
 

@@ -8,6 +8,7 @@ ghost use Rattle.document_model.specs.Scopes.{xml_space, xmlns_space, declared_p
 ghost use Rattle.xml_items.specs.Found.{value_in, IsValueText};
 ghost use Rattle.xml_items.specs.Attributes.{attribute_in, attributes_left};
 ghost use Rattle.doc_spans.specs.OpenTags.{tag_in, tags_in};
+ghost use Rattle.doc_spans.specs.ScopesIn.{bound_space};
 
 use crate::open_tags::OpenTag;
 use xml_items::attribute_walk::{Attribute, Attributes};
@@ -15,16 +16,30 @@ use xml_items::texts::{is, is_empty, same};
 use xml_items::value_texts::{is_empty_value, same_values, value_fits};
 
 // The namespace name of the prefix `xml`.
-pub(crate) const XML_SPACE: &str = "http://www.w3.org/XML/1998/namespace";
+const XML_SPACE: &str = "http://www.w3.org/XML/1998/namespace";
 
 // The namespace name of the prefix `xmlns`.
-pub(crate) const XMLNS_SPACE: &str = "http://www.w3.org/2000/xmlns/";
+const XMLNS_SPACE: &str = "http://www.w3.org/2000/xmlns/";
 
 // The most bytes of a namespace name.
 const LONGEST_SPACE: usize = 4096;
 
-// The prefix that an attribute declares, empty for the default, where it is a declaration.
-fn declared_prefix<'a>(a: Attribute<'a>) -> Option<&'a str>
+/// The namespace name of a prefix that no declaration changes, that of `xml` and of `xmlns`: as the text of a value.
+pub fn bound_space(prefix: &str) -> Option<&'static str>
+    ensures value { option_map (λ v. value_in (chars v.now)) result ≡ bound_space (chars prefix.now) }
+    ensures read { IfSome result (λ v. IsValueText v.now) }
+{
+    if is(prefix, "xml") {
+        Some(XML_SPACE)
+    } else if is(prefix, "xmlns") {
+        Some(XMLNS_SPACE)
+    } else {
+        None
+    }
+}
+
+/// The prefix that an attribute declares, empty for the default, where it is a declaration.
+pub fn declared_prefix<'a>(a: Attribute<'a>) -> Option<&'a str>
     ensures { declared_prefix (attribute_in a.entry) ≡ option_map (λ p. chars p.now) result }
 {
     if is_empty(a.prefix) && is(a.local, "xmlns") {
@@ -111,8 +126,8 @@ pub(crate) fn are_sound_declarations<'a>(attributes: Attributes<'a>) -> bool
     }
 }
 
-// The value of the first declaration of a prefix.
-pub(crate) fn declared_value<'a>(prefix: &str, attributes: Attributes<'a>) -> Option<&'a str>
+/// The value of the first declaration of a prefix, as it stands between its quotes.
+pub fn declared_value<'a>(prefix: &str, attributes: Attributes<'a>) -> Option<&'a str>
     ensures value { declared_value (chars prefix.now) (attributes_left attributes.entry) ≡ option_map (λ v. value_in (chars v.now)) result }
     ensures read { IfSome result (λ v. IsValueText v.now) }
 {

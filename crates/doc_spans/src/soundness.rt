@@ -10,9 +10,7 @@ ghost use Rattle.xml_items.specs.Found.{value_in, IsValueText};
 ghost use Rattle.xml_items.specs.Attributes.{attribute_in, attributes_left};
 
 use crate::open_tags::OpenTag;
-use crate::scopes::{
-    XML_SPACE, XMLNS_SPACE, are_sound_declarations, declared_space, declared_value,
-};
+use crate::scopes::{are_sound_declarations, bound_space, declared_space, declared_value};
 use xml_items::attribute_walk::{Attribute, Attributes};
 use xml_items::names::name_parts;
 use xml_items::texts::{is, is_empty, same};
@@ -45,12 +43,9 @@ impl<'s, 'a> Scope<'s, 'a> {
         ensures value { value_in (chars result.now) ≡ space_of (chars prefix.now) (scope_in self.now) }
         ensures read { IsValueText result.now }
     {
-        if is(prefix, "xml") {
-            XML_SPACE
-        } else if is(prefix, "xmlns") {
-            XMLNS_SPACE
-        } else {
-            self.declared_space(prefix)
+        match bound_space(prefix) {
+            Some(space) => space,
+            None => self.declared_space(prefix),
         }
     }
 

@@ -45,8 +45,9 @@ impl<'a> Pieces<'a> {
         Pieces::of_front(Front { text, reading })
     }
 
-    // The characters of an attribute value.
-    pub(crate) fn of_value(text: &'a str) -> Pieces<'a>
+    /// The characters of an attribute value, by what stands between its quotes (XML 1.0, section 3.3.3): references are decoded, and
+    /// white space is read as spaces.
+    pub fn of_value(text: &'a str) -> Pieces<'a>
         requires { IsValueText text.now }
         ensures { characters_left result ≡ value_in (chars text.now) }
     {

@@ -1,6 +1,7 @@
 //! The tree of a document: its rows, seen as the places and kinds of its nodes.
 
 ghost use Rattle.std.specs.Prelude.{◌≡◌, ◌<◌, length, [], map};
+ghost use Rattle.document_model.specs.Characters.{◌is◌};
 ghost use Rattle.doc_spans.specs.Below.{paths_below};
 ghost use Rattle.std.specs.Prelude.{◌⊎◌};
 ghost use Rattle.doc_spans.specs.Shown.{path_at, IsChild, children_of};
@@ -33,6 +34,16 @@ impl Tree {
         ensures { result ≡ length self.now.places }
     {
         self.rows.len()
+    }
+
+    // Whether two numbers are of one node: no two numbers have one path. The body reads the rows for this alone.
+    pub(crate) fn is_same(&self, a: u32, b: u32) -> bool
+        requires first { a < length self.now.places }
+        requires second { b < length self.now.places }
+        ensures { result ≡ (path_at self.now a is path_at self.now b) }
+    {
+        let _nodes = self.rows.len();
+        a == b
     }
 
     pub(crate) fn row(&self, number: u32) -> &Row

@@ -11,7 +11,5 @@ pub mod Put
 mod Inserted
 pub mod Targets
 mod Forms
-pub mod PlainTexts
 pub mod Joins
-pub mod PlainItems
 pub mod Extending

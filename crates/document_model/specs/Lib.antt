@@ -4,10 +4,8 @@ pub mod Items
 pub mod Tree
 pub mod Scopes
 pub mod Documents
-pub mod Plain
 pub mod NodeSets
 pub mod Canonical
-pub mod PlainText
 pub mod Insertion
 pub mod Places
 pub mod Methods

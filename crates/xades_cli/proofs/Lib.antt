@@ -1,4 +1,3 @@
-pub mod GrammarLemmas
 pub mod PlanLemmas
 pub mod RunLemmas
 pub mod WordLemmas

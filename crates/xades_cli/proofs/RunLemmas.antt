@@ -3,17 +3,18 @@ use Rattle.std.proofs.Common.{◌≡◌, inl, inr, ℕ, List, [], refl, sym, ◌
 use Rattle.std.specs.Prelude.{Option}
 use Rattle.xa_io.specs.Causes.{Rose}
 use Rattle.xa_io.specs.Shelf.{Files}
-use Rattle.xades_cli.specs.Grammar.{IsFaultyWord}
+use Rattle.word_patterns.specs.Grammar.{IsFaultyWord}
 use Rattle.xades_cli.specs.Reading.{Counts}
 use Rattle.xades_cli.specs.Words.{Asked, patterns, IsCommand}
 use Rattle.xades_cli.specs.Wanted.{Want, Fetched, Lacks, IsLong, Found, fetch}
 use Rattle.xades_cli.specs.Causes.{HasCause, HasReadCause}
-use Rattle.xades_cli.specs.Outcomes.{Outcome, Writes, RefusesDocument, wants_of, outcome_of}
+use Rattle.xades_cli.specs.Outcomes.{Outcome, Writes, RefusesDocument, RefusesItem, wants_of, outcome_of}
 use Rattle.xades_cli.specs.Answers.{IsByWords, Follows, IsRight, IsSettled, Completes, IsSized}
 use Rattle.doc_spans.specs.declared.faults.DocFault.{DocFault}
+use Rattle.xades_cli.specs.declared.code.Code.{Code}
 use Rattle.xades_cli.specs.declared.status.Status.{Status}
-use Rattle.xades_cli.specs.declared.status.Status.TheVariants.{Done, BadWords, NoSuchFile, ReadFault, WriteFault, TooLong, BadDocument, OutOfMemory}
-use Rattle.xades_cli.proofs.GrammarLemmas.{faulty_don't_fit}
+use Rattle.xades_cli.specs.declared.status.Status.TheVariants.{Done, BadWords, NoSuchFile, ReadFault, WriteFault, TooLong, BadDocument, Refused, OutOfMemory}
+use Rattle.word_patterns.proofs.GrammarLemmas.{faulty_don't_fit}
 
 -- a faulty word and the words of a command exclude each other
 pub no_command : (words : List (List ℕ)) (number : ℕ) → IsFaultyWord patterns words number → IsCommand words → ⊥
@@ -22,6 +23,7 @@ no_command words number found command = faulty_don't_fit patterns words number f
 -- a fault of the reading tells of no place in a document
 pub read_sized : (wants : List Want) (before now : Counts) (status : Status) (fetched : Fetched) (size : ℕ) → HasReadCause wants before now status → IsSized status fetched size
 read_sized wants before now (BadDocument why) fetched size cause = absurd cause
+read_sized wants before now (Refused item code) fetched size cause = tt
 read_sized wants before now Done fetched size cause = tt
 read_sized wants before now (BadWords index) fetched size cause = tt
 read_sized wants before now (NoSuchFile name) fetched size cause = tt
@@ -33,10 +35,17 @@ read_sized wants before now OutOfMemory fetched size cause = tt
 settled_done : (outcome : Outcome) (before now : Option (List ℕ)) → Follows outcome Done before now → IsSettled outcome Done before now
 settled_done (Writes bytes) before now follows = follows
 settled_done (RefusesDocument document) before now follows = absurd follows
+settled_done (RefusesItem item why) before now follows = absurd follows
 
 settled_document : (outcome : Outcome) (why : DocFault) (before now : Option (List ℕ)) → Follows outcome (BadDocument why) before now → IsSettled outcome (BadDocument why) before now
 settled_document (Writes bytes) why before now follows = absurd follows
 settled_document (RefusesDocument document) why before now follows = follows
+settled_document (RefusesItem item code) why before now follows = absurd follows
+
+settled_item : (outcome : Outcome) (item : ℕ) (code : Code) (before now : Option (List ℕ)) → Follows outcome (Refused item code) before now → IsSettled outcome (Refused item code) before now
+settled_item (Writes bytes) item code before now follows = absurd follows
+settled_item (RefusesDocument document) item code before now follows = absurd follows
+settled_item (RefusesItem number why) item code before now follows = follows
 
 same_contents : (one two : List (List ℕ)) → Found one ≡ Found two → one ≡ two
 same_contents one two e = cc
@@ -60,3 +69,6 @@ completes words asked files cb cn rose WriteFault before now fine whole write ca
 completes words asked files cb cn rose (BadDocument why) before now fine whole write cause by_words command right = λ contents found.
     let e = same_contents right.contents contents (sym right.found ∙ found) in
     inr (rw (← e) (settled_document (outcome_of asked right.contents) why before now right.follows))
+completes words asked files cb cn rose (Refused item code) before now fine whole write cause by_words command right = λ contents found.
+    let e = same_contents right.contents contents (sym right.found ∙ found) in
+    inr (rw (← e) (settled_item (outcome_of asked right.contents) item code before now right.follows))

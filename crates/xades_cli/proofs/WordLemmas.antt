@@ -1,34 +1,67 @@
--- What the words of the command line are.
-use Rattle.std.proofs.Common.{◌≡◌, ◌≤◌, ℕ, List, [], ◌∷◌, length, drop, map, slice_index_or, refl, sym, arith, true, false, Bor, nat_eq, codes}
-use Rattle.std.specs.Prelude.{Option, None, Some, Result, Ok, Err, MatchOption, MatchResult}
-use Rattle.std.specs.List.{starts_with}
-use Rattle.std.specs.Str.{IsCharBoundary}
-use Rattle.std.specs.Str.Pattern.{FindsTextPrefix, StripsPrefix}
-use Rattle.std.proofs.lemmas.Str.Pattern.{starts_text}
-use Rattle.xades_cli.specs.Grammar.{is_of_form, faulty_from, IsFaultyWord}
-use Rattle.xades_cli.specs.Words.{file_word, canon_behind, patterns, IsCommand, asked_by, asked_of}
-use Rattle.xades_cli.specs.declared.words.Command.{Command}
-use Rattle.xades_cli.proofs.GrammarLemmas.{AllGood, fitting_words, faulty_word}
+-- What the words of the command line are, and what a run that stops at them owes.
+use Rattle.std.proofs.Common.{◌≡◌, ◌≤◌, ℕ, List, [], ◌∷◌, refl, sym, subst, arith}
+use Rattle.std.specs.Prelude.{Option, None, Some, codes, true}
+use Rattle.std.specs.Str.{is_utf8, chars}
+use Rattle.std.specs.Char.{encode_utf8}
+use Rattle.word_patterns.specs.TextForms.{are_prefixes}
+use Rattle.xa_io.specs.Shelf.{Files}
+use Rattle.word_patterns.specs.Grammar.{IsFaultyWord}
+use Rattle.word_patterns.specs.Good.{AllGood, AreFew}
+use Rattle.xades_cli.specs.Words.{Asked, patterns, IsCommand, IsWordFault}
+use Rattle.xades_cli.specs.Answers.{IsRight}
+use Rattle.xades_cli.specs.declared.code.Code.{Code}
+use Rattle.doc_spans.specs.declared.faults.DocFault.{DocFault}
+use Rattle.xades_cli.specs.declared.status.Status.{Status}
+use Rattle.xades_cli.specs.declared.status.Status.TheVariants.{Done, BadWords, NoSuchFile, ReadFault, WriteFault, TooLong, BadDocument, Refused, OutOfMemory}
+use Rattle.xades_cli.proofs.RunLemmas.{no_command}
 
--- a prefix that is taken away
-pub behind_text : (key word : List ℕ) (r : Option (Bor (List ℕ))) → MatchOption r (FindsTextPrefix key word None) (λ x. StripsPrefix (FindsTextPrefix key) word x.now) → MatchOption r (starts_with nat_eq word key ≡ false) (λ text. (starts_with nat_eq word key ≡ true) × (text.now ≡ drop (length key) word))
-behind_text key word None lacks = sym (starts_text false key word lacks)
-behind_text key word (Some x) strips =
-    let at : strips.0 ≡ length key = strips.1.0 in
-    let boundary : IsCharBoundary word strips.0 = rw at strips.1.2 in
-    (sym (starts_text true key word (strips.0, strips.1, boundary)), rw (← at) strips.2)
+default_is_prefix : are_prefixes (codes "#default") ≡ true
+unfolding is_utf8 chars encode_utf8
+default_is_prefix = refl
 
--- a word behind the document's
-pub canon_goes_on : {A : Type 0} (text : A → List ℕ) (words : List A) (d : A) → 2 ≤ length words → is_of_form (file_word (codes "doc=")) (text (slice_index_or words 0 d)) ≡ true → faulty_from 2 (canon_behind ∷ []) (map text words) ≡ Some 3
-canon_goes_on text [] d two is_file = absurd (omega arith)
-canon_goes_on text (first ∷ []) d two is_file = absurd (omega arith)
-canon_goes_on text (first ∷ second ∷ others) d two is_file = rw is_file refl
+-- some words fit each pattern
+pub all_good : AllGood patterns
+all_good = (
+  (
+    record { example = codes "canon"; is_example = refl; ordered = omega arith },
+    (
+      record { example = codes "doc=a"; is_example = refl; ordered = omega arith },
+      (
+        record { example = codes "form=exclusive"; is_example = refl; ordered = omega arith },
+        (
+          record { example = codes "comments=no"; is_example = refl; ordered = omega arith },
+          (record { example = codes "prefixes=#default"; is_example = rw default_is_prefix refl; ordered = omega arith }, (record { example = codes "id=a"; is_example = refl; ordered = omega arith }, tt)),
+        ),
+      ),
+    ),
+  ),
+  (
+    (
+      record { example = codes "canon"; is_example = refl; ordered = omega arith },
+      (
+        record { example = codes "doc=a"; is_example = refl; ordered = omega arith },
+        (
+          record { example = codes "form=inclusive"; is_example = refl; ordered = omega arith },
+          (record { example = codes "comments=no"; is_example = refl; ordered = omega arith }, (record { example = codes "id=a"; is_example = refl; ordered = omega arith }, tt)),
+        ),
+      ),
+    ),
+    tt,
+  ),
+)
 
--- words can fit the patterns of the commands
-all_good : AllGood patterns
-all_good = ((record { example = codes "canon"; is_example = refl; ordered = omega arith }, (record { example = codes "doc=a"; is_example = refl; ordered = omega arith }, tt)), tt)
+pub all_few : AreFew 1 patterns
+all_few = (omega arith, (omega arith, tt))
 
--- the search by the patterns tells whether the words are those of a command, and else the faulty one
-pub by_patterns : (words : List (List ℕ)) (r : Result Command ℕ) → MatchResult r (λ command. (faulty_from 1 patterns words ≡ None) × (asked_by words ≡ asked_of command)) (λ number. faulty_from 1 patterns words ≡ Some number) → MatchResult r (λ command. IsCommand words × (asked_by words ≡ asked_of command)) (λ number. IsFaultyWord patterns words number)
-by_patterns words (Ok command) found = (fitting_words 1 patterns words found.0, found.1)
-by_patterns words (Err number) found = faulty_word patterns words number refl all_good found
+-- A run that stops at the words.
+
+pub stopped_right : (words : List (List ℕ)) (status : Status) (asked : Asked) (files : Files) (before now : Option (List ℕ)) → IsWordFault words status → IsCommand words → IsRight asked files status before now
+stopped_right words (BadWords index) asked files before now fault command = absurd (no_command words index fault command)
+stopped_right words OutOfMemory asked files before now fault command = tt
+stopped_right words Done asked files before now fault command = absurd fault
+stopped_right words (NoSuchFile name) asked files before now fault command = absurd fault
+stopped_right words (ReadFault name) asked files before now fault command = absurd fault
+stopped_right words WriteFault asked files before now fault command = absurd fault
+stopped_right words (TooLong name got) asked files before now fault command = absurd fault
+stopped_right words (BadDocument why) asked files before now fault command = absurd fault
+stopped_right words (Refused item code) asked files before now fault command = absurd fault

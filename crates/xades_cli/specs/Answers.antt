@@ -2,13 +2,13 @@
 use Rattle.std.specs.Prelude.{◌≡◌, ◌⊎◌, ℕ, List, [], Option}
 use Rattle.xa_io.specs.Sink.{appended, GaveFirst}
 use Rattle.xa_io.specs.Shelf.{Files}
-use Rattle.xades_cli.specs.Grammar.{IsFaultyWord}
+use Rattle.word_patterns.specs.Grammar.{IsFaultyWord}
 use Rattle.xades_cli.specs.Words.{Asked, patterns, IsCommand}
 use Rattle.xades_cli.specs.Wanted.{Fetched, Found, fetch, document_size}
 use Rattle.xades_cli.specs.Causes.{IsFaultOf}
-use Rattle.xades_cli.specs.Outcomes.{Outcome, Writes, RefusesDocument, wants_of, outcome_of, IsFaultyDocument}
+use Rattle.xades_cli.specs.Outcomes.{Outcome, Writes, RefusesDocument, RefusesItem, wants_of, outcome_of, IsFaultyDocument}
 use Rattle.xades_cli.specs.declared.status.Status.{Status}
-use Rattle.xades_cli.specs.declared.status.Status.TheVariants.{Done, BadWords, NoSuchFile, ReadFault, WriteFault, TooLong, BadDocument, OutOfMemory}
+use Rattle.xades_cli.specs.declared.status.Status.TheVariants.{Done, BadWords, NoSuchFile, ReadFault, WriteFault, TooLong, BadDocument, Refused, OutOfMemory}
 
 -- BadWords tells the faulty word, and any other status but want of memory comes of the words of a command
 abbrev pub IsByWords : List (List ℕ) → Status → Type 0
@@ -21,6 +21,7 @@ abbrev pub Follows : Outcome → Status → Option (List ℕ) → Option (List �
 Follows (Writes bytes) Done before now = now ≡ appended before bytes
 Follows (Writes bytes) WriteFault before now = GaveFirst bytes before now
 Follows (RefusesDocument document) (BadDocument fault) before now = IsFaultyDocument document fault
+Follows (RefusesItem item why) (Refused number code) before now = (number ≡ item) × (code ≡ why)
 Follows outcome status before now = ⊥
 
 -- the files were read, and the status and what was given follow the outcome
@@ -47,6 +48,7 @@ OnQuiet status P = P
 abbrev pub IsSettled : Outcome → Status → Option (List ℕ) → Option (List ℕ) → Type 0
 IsSettled (Writes bytes) Done before now = now ≡ appended before bytes
 IsSettled (RefusesDocument document) (BadDocument fault) before now = IsFaultyDocument document fault
+IsSettled (RefusesItem item why) (Refused number code) before now = (number ≡ item) × (code ≡ why)
 IsSettled outcome status before now = ⊥
 
 -- where the files of a command are found, its outcome is reached whole, or memory is wanted

@@ -7,7 +7,7 @@ use Rattle.xades_cli.specs.Wanted.{Want, Wants, Lacks, IsTooLong, fetch, Reaches
 use Rattle.xades_cli.specs.declared.files.FileFault.{FileFault}
 use Rattle.xades_cli.specs.declared.files.FileFault.TheVariants as fault
 use Rattle.xades_cli.specs.declared.status.Status.{Status}
-use Rattle.xades_cli.specs.declared.status.Status.TheVariants.{Done, BadWords, NoSuchFile, ReadFault, WriteFault, TooLong, BadDocument, OutOfMemory}
+use Rattle.xades_cli.specs.declared.status.Status.TheVariants.{Done, BadWords, NoSuchFile, ReadFault, WriteFault, TooLong, BadDocument, Refused, OutOfMemory}
 
 -- a file of this name is wanted with a limit below `got`
 pub record IsAbove (wants : List Want) (name : List ℕ) (got : ℕ) : Type 0 where
@@ -30,6 +30,7 @@ HasReadCause wants before now Done = ⊥
 HasReadCause wants before now (BadWords index) = ⊥
 HasReadCause wants before now WriteFault = ⊥
 HasReadCause wants before now (BadDocument why) = ⊥
+HasReadCause wants before now (Refused item code) = ⊥
 
 -- a status that tells of the reading of a file has its cause in the counts
 abbrev pub HasCause : List Want → Counts → Counts → Status → Type 0
@@ -40,6 +41,7 @@ HasCause wants before now Done = Unit {0}
 HasCause wants before now (BadWords index) = Unit {0}
 HasCause wants before now WriteFault = Unit {0}
 HasCause wants before now (BadDocument why) = Unit {0}
+HasCause wants before now (Refused item code) = Unit {0}
 HasCause wants before now OutOfMemory = Unit {0}
 
 -- the status tells why these files couldn't be read
@@ -52,6 +54,7 @@ IsFaultOf files wants Done = ⊥
 IsFaultOf files wants (BadWords index) = ⊥
 IsFaultOf files wants WriteFault = ⊥
 IsFaultOf files wants (BadDocument why) = ⊥
+IsFaultOf files wants (Refused item code) = ⊥
 
 -- the status for a file that wasn't read
 abbrev pub status_by : List ℕ → FileFault → Status

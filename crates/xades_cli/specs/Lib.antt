@@ -1,4 +1,3 @@
-pub mod Grammar
 pub mod Words
 pub mod Reading
 pub mod Wanted

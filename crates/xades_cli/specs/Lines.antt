@@ -8,8 +8,10 @@ use Rattle.xades_cli.specs.Wanted.{fetch}
 use Rattle.xades_cli.specs.Outcomes.{wants_of}
 use Rattle.xades_cli.specs.Answers.{IsSized}
 use Rattle.doc_spans.specs.Faults.{fault_number, fault_place}
+use Rattle.xades_cli.specs.declared.code.Code.{Code}
+use Rattle.xades_cli.specs.declared.code.Code.TheVariants.{TargetMissing, TargetTwice}
 use Rattle.xades_cli.specs.declared.status.Status.{Status}
-use Rattle.xades_cli.specs.declared.status.Status.TheVariants.{Done, BadWords, NoSuchFile, ReadFault, WriteFault, TooLong, BadDocument, OutOfMemory}
+use Rattle.xades_cli.specs.declared.status.Status.TheVariants.{Done, BadWords, NoSuchFile, ReadFault, WriteFault, TooLong, BadDocument, Refused, OutOfMemory}
 
 -- the number of a status, with which the process ends
 abbrev pub status_number : Status → ℕ
@@ -20,11 +22,25 @@ status_number (ReadFault name) = 4
 status_number WriteFault = 5
 status_number (TooLong name got) = 6
 status_number (BadDocument why) = 7
+status_number (Refused item code) = 10
 status_number OutOfMemory = 11
+
+-- a line that tells two numbers
+abbrev pub numbers_line : List ℕ → ℕ → List ℕ → ℕ → List ℕ
+numbers_line opening first middle second = (opening ++ decimal first ++ middle) ++ (decimal second ++ codes "\n")
 
 -- the line for a fault of a document, by its number and its place; the place of a fault at the end is the document's length
 abbrev pub fault_line : ℕ → ℕ → List ℕ
-fault_line number place = (codes "xades: document fault " ++ decimal number ++ codes " at ") ++ (decimal place ++ codes "\n")
+fault_line number place = numbers_line (codes "xades: document fault ") number (codes " at ") place
+
+-- the number of a code
+abbrev pub code_number : Code → ℕ
+code_number (TargetMissing k) = 6
+code_number (TargetTwice k) = 7
+
+-- the line for an item that is refused
+abbrev pub refusal_line : ℕ → ℕ → List ℕ
+refusal_line item number = numbers_line (codes "xades: item ") item (codes " refused: A") number
 
 -- the line of a status, where the document is of this size
 abbrev pub line_of : ℕ → Status → List ℕ
@@ -35,6 +51,7 @@ line_of size (ReadFault name) = codes "xades: read fault: " ++ name ++ codes "\n
 line_of size WriteFault = codes "xades: write fault\n"
 line_of size (TooLong name got) = codes "xades: too long: " ++ name ++ codes "\n"
 line_of size (BadDocument why) = fault_line (fault_number why) (unwrap_or (fault_place why) size)
+line_of size (Refused item code) = refusal_line item (code_number code)
 line_of size OutOfMemory = codes "xades: out of memory\n"
 
 -- a text was given, or a first part of it where the faults rose

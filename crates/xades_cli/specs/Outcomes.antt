@@ -1,20 +1,24 @@
 -- What a command comes to by the bytes of its files.
-use Rattle.std.specs.Prelude.{ℕ, List, [], ◌∷◌, Option, None, Some, false}
+use Rattle.std.specs.Prelude.{ℕ, List, [], ◌∷◌, Option, None, Some}
+use Rattle.std.specs.Str.{chars}
 use Rattle.document_model.specs.Documents
 use Rattle.document_model.specs.Documents.{fault, document_of}
-use Rattle.document_model.specs.Plain.{first_not_plain}
-use Rattle.document_model.specs.NodeSets.{whole}
-use Rattle.document_model.specs.Canonical.{Form, Exclusive, octets_of}
+use Rattle.document_model.specs.Tree.{Nodes}
+use Rattle.document_model.specs.NodeSets.{Target, Missing, Single, Double, target_of, whole, subtree}
+use Rattle.document_model.specs.Canonical.{Form, octets_of}
 use Rattle.xades_cli.specs.Words.{Asked, AskedCanon}
 use Rattle.xades_cli.specs.Wanted.{Want}
-use Rattle.doc_spans.specs.Faults.{IsFaultOf}
+use Rattle.xades_cli.specs.declared.code.Code.{Code}
+use Rattle.xades_cli.specs.declared.code.Code.TheVariants.{TargetMissing, TargetTwice}
+use Rattle.doc_spans.specs.Faults.{IsFirstFault}
 use Rattle.doc_spans.specs.declared.faults.DocFault.{DocFault}
 use Rattle.doc_spans.specs.declared.faults.DocFault.TheVariants.{OutOfMemory}
 
--- what a command comes to once its files are read: it writes bytes, or refuses a document that spells no tree within the limits
+-- what a command comes to once its files are read: it writes bytes, or refuses a document that spells no tree within the limits, or an item
 pub data Outcome : Type 0 where
   Writes : (bytes : List ℕ) → Outcome
   RefusesDocument : (document : List ℕ) → Outcome
+  RefusesItem : (item : ℕ) (code : Code) → Outcome
 
 -- the most bytes of a document
 abbrev pub document_limit : ℕ
@@ -22,27 +26,33 @@ document_limit = 16777216
 
 -- the files that a command wants, in the order of its words
 abbrev pub wants_of : Asked → List Want
-wants_of (AskedCanon document) = record { name = document; limit = document_limit } ∷ []
+wants_of (AskedCanon document form id) = record { name = document; limit = document_limit } ∷ []
 
--- Exclusive XML Canonicalization 1.0, without comments and without a list of prefixes
-abbrev pub exclusive : Form
-exclusive = record { rule = Exclusive []; comments = false }
+-- the canonical text of the element that an identifier names, where it names just one; a command that has no items refuses as item 0
+abbrev pub target_outcome : Form → Target → Nodes → Outcome
+target_outcome form Missing document = RefusesItem 0 (TargetMissing 0)
+target_outcome form Double document = RefusesItem 0 (TargetTwice 0)
+target_outcome form (Single path) document = Writes (octets_of form (subtree path) document)
 
--- the document is plain and has no fault, and else it is refused
-abbrev pub canon_by : Option ℕ → Option Documents.Fault → List ℕ → Outcome
-canon_by None None document = Writes (octets_of exclusive whole (document_of document))
-canon_by None (Some f) document = RefusesDocument document
-canon_by (Some at) f document = RefusesDocument document
+-- the canonical text of the document, or of an element
+abbrev pub text_outcome : Form → Option (List ℕ) → Nodes → Outcome
+text_outcome form None document = Writes (octets_of form whole document)
+text_outcome form (Some id) document = target_outcome form (target_of (chars id) document) document
 
-abbrev pub canon_outcome : List ℕ → Outcome
-canon_outcome document = canon_by (first_not_plain document) (fault document) document
+-- a document that has a fault is refused
+abbrev pub canon_by : Option Documents.Fault → Form → Option (List ℕ) → List ℕ → Outcome
+canon_by (Some f) form id document = RefusesDocument document
+canon_by None form id document = text_outcome form id (document_of document)
+
+abbrev pub canon_outcome : Form → Option (List ℕ) → List ℕ → Outcome
+canon_outcome form id document = canon_by (fault document) form id document
 
 -- what a command comes to by the bytes of its files
 abbrev pub outcome_of : Asked → List (List ℕ) → Outcome
-outcome_of (AskedCanon name) (document ∷ others) = canon_outcome document
-outcome_of (AskedCanon name) [] = RefusesDocument []
+outcome_of (AskedCanon name form id) (document ∷ others) = canon_outcome form id document
+outcome_of (AskedCanon name form id) [] = RefusesDocument []
 
 -- the fault tells why a document is refused, and isn't want of memory
 abbrev pub IsFaultyDocument : List ℕ → DocFault → Type 0
 IsFaultyDocument document OutOfMemory = ⊥
-IsFaultyDocument document why = IsFaultOf why document
+IsFaultyDocument document why = IsFirstFault why document

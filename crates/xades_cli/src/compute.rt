@@ -31,7 +31,7 @@ pub fn wanted_by<'a>(alloc: Global, command: Command<'a>) -> Result<Vec<Wanted<'
 {
     let mut wanted = Vec::new(alloc);
     match command {
-        Command::Canon { document } => {
+        Command::Canon { document, .. } => {
             let Ok(()) = wanted.push(Wanted {
                 name: document,
                 limit: DOCUMENT_LIMIT,
@@ -49,8 +49,8 @@ pub fn compute(alloc: Global, command: Command<'_>, contents: &[Octs]) -> Comput
     ensures { IsComputed (outcome_of (asked_of command.entry) contents.now) result }
 {
     match command {
-        Command::Canon { .. } => match contents {
-            [document, ..] => canonicalize(alloc, document.as_slice()),
+        Command::Canon { method, id, .. } => match contents {
+            [document, ..] => canonicalize(alloc, method, id, document.as_slice()),
             [] => unreachable!(),
         },
     }

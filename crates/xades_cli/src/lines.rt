@@ -4,7 +4,7 @@ ghost use Rattle.xa_io.specs.Sink.{appended};
 ghost use Rattle.xa_io.specs.Causes.{Rose};
 ghost use Rattle.xa_io.specs.Sink.{GaveFirst};
 ghost use Rattle.doc_spans.specs.Faults.{fault_place};
-ghost use Rattle.xades_cli.specs.Lines.{fault_line, line_of, Gives};
+ghost use Rattle.xades_cli.specs.Lines.{numbers_line, fault_line, refusal_line, line_of, Gives};
 
 use crate::status::Status;
 use doc_spans::DocFault;
@@ -60,26 +60,51 @@ fn place_of(fault: &DocFault, size: usize) -> usize
     }
 }
 
+// Gives a line that tells two numbers.
+fn put_numbers<E: Sink>(
+    err: &mut E,
+    opening: &[u8],
+    first: u32,
+    middle: &[u8],
+    second: usize,
+) -> Result<(), SinkFailed>
+    ensures ok { OnOk result (E.given err.new ≡ appended (E.given err.old) (numbers_line opening.now first middle.now second)) }
+    ensures part { OnErr result (GaveFirst (numbers_line opening.now first middle.now second) (E.given err.old) (E.given err.new)) }
+    ensures failed { OnErr result (Rose (E.faults err.old) (E.faults err.new)) }
+{
+    let mut digits = Buffer::new();
+    match put_three(err, opening, digits.format(first).as_bytes(), middle) {
+        Ok(()) => {}
+        Err(SinkFailed) => return Err(SinkFailed),
+    }
+    match put_two(err, digits.format(second).as_bytes(), b"\n") {
+        Ok(()) => Ok(()),
+        Err(SinkFailed) => Err(SinkFailed),
+    }
+}
+
 // Gives the line for a fault of a document.
 fn put_fault<E: Sink>(err: &mut E, number: u8, place: usize) -> Result<(), SinkFailed>
     ensures ok { OnOk result (E.given err.new ≡ appended (E.given err.old) (fault_line number place)) }
     ensures part { OnErr result (GaveFirst (fault_line number place) (E.given err.old) (E.given err.new)) }
     ensures failed { OnErr result (Rose (E.faults err.old) (E.faults err.new)) }
 {
-    let mut digits = Buffer::new();
-    match put_three(
+    put_numbers(
         err,
         b"xades: document fault ",
-        digits.format(number).as_bytes(),
+        number as u32,
         b" at ",
-    ) {
-        Ok(()) => {}
-        Err(SinkFailed) => return Err(SinkFailed),
-    }
-    match put_two(err, digits.format(place).as_bytes(), b"\n") {
-        Ok(()) => Ok(()),
-        Err(SinkFailed) => Err(SinkFailed),
-    }
+        place,
+    )
+}
+
+// Gives the line for an item that is refused.
+fn put_refusal<E: Sink>(err: &mut E, item: u32, number: u8) -> Result<(), SinkFailed>
+    ensures ok { OnOk result (E.given err.new ≡ appended (E.given err.old) (refusal_line item number)) }
+    ensures part { OnErr result (GaveFirst (refusal_line item number) (E.given err.old) (E.given err.new)) }
+    ensures failed { OnErr result (Rose (E.faults err.old) (E.faults err.new)) }
+{
+    put_numbers(err, b"xades: item ", item, b" refused: A", number as usize)
 }
 
 // Gives the line for a status.
@@ -117,6 +142,7 @@ fn try_say<E: Sink>(err: &mut E, status: &Status, size: usize) -> Result<(), Sin
             b"\n",
         ),
         Status::BadDocument(fault) => put_fault(err, fault.number(), place_of(fault, size)),
+        Status::Refused { item, code } => put_refusal(err, *item, code.number()),
         Status::OutOfMemory => err.put(b"xades: out of memory\n"),
     }
 }

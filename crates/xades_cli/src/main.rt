@@ -2,6 +2,7 @@
 #![tactic(auto)]
 
 mod canon;
+mod code;
 mod compute;
 mod files;
 mod lines;

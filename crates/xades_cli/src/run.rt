@@ -96,9 +96,9 @@ fn carry_out<S: Shelf, O: Sink>(
     ensures write { result.status ≡ Status.WriteFault → Rose (O.faults out.old) (O.faults out.new) }
     ensures quiet { OnQuiet result.status (out.new ≡ out.old) }
 {
-    match read_words(words.as_slice()) {
+    match read_words(alloc, words.as_slice()) {
         Ok(command) => perform(alloc, command, shelf, out),
-        Err(index) => early(Status::BadWords { index }),
+        Err(status) => early(status),
     }
 }
 

@@ -1,6 +1,7 @@
 // What a run answers.
 ghost use Rattle.std.specs.Prelude.{◌≡◌};
 
+use crate::code::Code;
 use doc_spans::DocFault;
 use xa_io::Name;
 
@@ -21,6 +22,8 @@ pub enum Status {
     TooLong { name: Name, got: u64 },
     /// 7: the document spells no tree within the limits.
     BadDocument(DocFault),
+    /// 10: an item is refused; a command without items refuses as item 0.
+    Refused { item: u32, code: Code },
     /// 11: memory could not be had.
     OutOfMemory,
 }
@@ -40,6 +43,7 @@ impl Status {
             Status::WriteFault => 5,
             Status::TooLong { .. } => 6,
             Status::BadDocument(_) => 7,
+            Status::Refused { .. } => 10,
             Status::OutOfMemory => 11,
         }
     }

@@ -86,99 +86,216 @@ fn compare(rt: &impl Abort, row: usize, answer: &Answer, number: u8, out: &[u8],
 
 const CANON: &[&str] = &["canon", "doc=a"];
 
-#[test]
-fn rows(rt: HostRuntime) -> Result<(), Fail> {
-    let rows = [
-        Row {
-            words: CANON,
-            document: b"<a/>",
-            number: 0,
-            out: b"<a></a>",
-            err: b"",
-        },
-        Row {
-            words: CANON,
-            document: b"<a><b>x > y</b>\n<c /></a>",
-            number: 0,
-            out: b"<a><b>x &gt; y</b>\n<c></c></a>",
-            err: b"",
-        },
-        Row {
-            words: CANON,
-            document: b"<a>&lt;</a>",
-            number: 7,
-            out: b"",
-            err: b"xades: document fault 7 at 3\n",
-        },
-        Row {
-            words: CANON,
-            document: b"<a><b",
-            number: 7,
-            out: b"",
-            err: b"xades: document fault 1 at 3\n",
-        },
-        Row {
-            words: CANON,
-            document: b"",
-            number: 7,
-            out: b"",
-            err: b"xades: document fault 5 at 0\n",
-        },
-        Row {
-            words: CANON,
-            document: b"<a>",
-            number: 7,
-            out: b"",
-            err: b"xades: document fault 5 at 3\n",
-        },
-        Row {
-            words: &["canon", "doc=b"],
-            document: b"<a/>",
-            number: 3,
-            out: b"",
-            err: b"xades: no such file: b\n",
-        },
-        Row {
-            words: &[],
-            document: b"<a/>",
-            number: 2,
-            out: b"",
-            err: b"xades: word 1 is not understood\n",
-        },
-        Row {
-            words: &["frob"],
-            document: b"<a/>",
-            number: 2,
-            out: b"",
-            err: b"xades: word 1 is not understood\n",
-        },
-        Row {
-            words: &["canon"],
-            document: b"<a/>",
-            number: 2,
-            out: b"",
-            err: b"xades: word 2 is not understood\n",
-        },
-        Row {
-            words: &["canon", "doc="],
-            document: b"<a/>",
-            number: 2,
-            out: b"",
-            err: b"xades: word 2 is not understood\n",
-        },
-        Row {
-            words: &["canon", "doc=a", "id="],
-            document: b"<a/>",
-            number: 2,
-            out: b"",
-            err: b"xades: word 3 is not understood\n",
-        },
-    ];
+// A run that is carried out.
+fn done(words: &'static [&'static str], document: &'static [u8], out: &'static [u8]) -> Row {
+    Row {
+        words,
+        document,
+        number: 0,
+        out,
+        err: b"",
+    }
+}
+
+// A run that ends with a line on `err` and nothing on `out`.
+fn fails(
+    words: &'static [&'static str],
+    document: &'static [u8],
+    number: u8,
+    err: &'static [u8],
+) -> Row {
+    Row {
+        words,
+        document,
+        number,
+        out: b"",
+        err,
+    }
+}
+
+// The rows, with files that are given in parts of several sizes.
+fn compare_rows(rt: &HostRuntime, end: &impl Abort, rows: &[Row]) -> Result<(), Fail> {
     'rows: for (number, row) in rows.iter().enumerate() {
         'parts: for most in [1, 3, 100] {
-            let answer = answer_of(&rt, row.words, row.document, most, &NONE)?;
-            compare(&rt, number, &answer, row.number, row.out, row.err);
+            let answer = answer_of(rt, row.words, row.document, most, &NONE)?;
+            compare(end, number, &answer, row.number, row.out, row.err);
         }
+    }
+    Ok(())
+}
+
+const COMMENTS: &[&str] = &["canon", "doc=a", "comments=yes"];
+
+const PREFIXED: &[u8] =
+    b"<b:a xmlns:b=\"u\" z=\"1\" b:y=\"2\" x=\"&#9;\"><c xmlns=\"\" xmlns:b=\"u\"/></b:a>";
+
+const INNER: &[u8] =
+    b"<r xmlns=\"u\" xmlns:p=\"v\" xml:lang=\"de\"><p:x id=\"k\" a=\"1\"><y/></p:x></r>";
+
+const AROUND: &[u8] = b"<?x 1?><!--c--><a/><!--d--><?y?>";
+
+#[test]
+fn texts(rt: HostRuntime) -> Result<(), Fail> {
+    let rows = [
+        done(CANON, b"<a/>", b"<a></a>"),
+        done(
+            CANON,
+            b"<a><b>x > y</b>\n<c /></a>",
+            b"<a><b>x &gt; y</b>\n<c></c></a>",
+        ),
+        done(CANON, b"<a>&lt;</a>", b"<a>&lt;</a>"),
+        done(
+            CANON,
+            PREFIXED,
+            b"<b:a xmlns:b=\"u\" x=\"&#x9;\" z=\"1\" b:y=\"2\"><c></c></b:a>",
+        ),
+        done(
+            &["canon", "doc=a", "id=k"],
+            INNER,
+            b"<p:x xmlns:p=\"v\" a=\"1\" id=\"k\"><y xmlns=\"u\"></y></p:x>",
+        ),
+        done(
+            &["canon", "doc=a", "form=inclusive", "id=k"],
+            INNER,
+            b"<p:x xmlns=\"u\" xmlns:p=\"v\" a=\"1\" id=\"k\" xml:lang=\"de\"><y></y></p:x>",
+        ),
+        done(
+            &["canon", "doc=a", "prefixes=#default", "id=k"],
+            INNER,
+            b"<p:x xmlns=\"u\" xmlns:p=\"v\" a=\"1\" id=\"k\"><y></y></p:x>",
+        ),
+        done(
+            CANON,
+            b"<a t=\"x\r\ny\">p\r\nq<![CDATA[r\rs]]>&#13;</a>",
+            b"<a t=\"x y\">p\nqr\ns&#xD;</a>",
+        ),
+        done(CANON, AROUND, b"<?x 1?>\n<a></a>\n<?y?>"),
+        done(
+            COMMENTS,
+            AROUND,
+            b"<?x 1?>\n<!--c-->\n<a></a>\n<!--d-->\n<?y?>",
+        ),
+        done(
+            &["canon", "doc=a", "form=inclusive", "comments=yes"],
+            AROUND,
+            b"<?x 1?>\n<!--c-->\n<a></a>\n<!--d-->\n<?y?>",
+        ),
+    ];
+    compare_rows(&rt, &rt, &rows)
+}
+
+#[test]
+fn document_faults(rt: HostRuntime) -> Result<(), Fail> {
+    let rows = [
+        fails(
+            CANON,
+            b"<!--c--><!DOCTYPE a><a/>",
+            7,
+            b"xades: document fault 2 at 8\n",
+        ),
+        fails(CANON, b"<a><b", 7, b"xades: document fault 1 at 3\n"),
+        fails(CANON, b"", 7, b"xades: document fault 5 at 0\n"),
+        fails(CANON, b"<a>", 7, b"xades: document fault 5 at 3\n"),
+        fails(CANON, b"<a>&x;</a>", 7, b"xades: document fault 1 at 3\n"),
+        fails(CANON, b"<a>]]></a>", 7, b"xades: document fault 1 at 5\n"),
+        fails(
+            CANON,
+            b"<a b=\"1\" b=\"2\"/>",
+            7,
+            b"xades: document fault 1 at 0\n",
+        ),
+        fails(CANON, b"<p:a/>", 7, b"xades: document fault 1 at 0\n"),
+        fails(CANON, b"<a></b>", 7, b"xades: document fault 1 at 3\n"),
+        fails(CANON, b"<a/>x", 7, b"xades: document fault 1 at 4\n"),
+        fails(CANON, b"<a/><b/>", 7, b"xades: document fault 1 at 4\n"),
+        fails(
+            CANON,
+            b"<?xml version=\"1.1\"?><a/>",
+            7,
+            b"xades: document fault 1 at 0\n",
+        ),
+        fails(CANON, b"\xEF\xBB\xBF", 7, b"xades: document fault 5 at 3\n"),
+        fails(CANON, b"<a>&#0;</a>", 7, b"xades: document fault 1 at 3\n"),
+    ];
+    compare_rows(&rt, &rt, &rows)
+}
+
+#[test]
+fn refusals(rt: HostRuntime) -> Result<(), Fail> {
+    let two = b"<r><a Id=\"x\"/><b ID=\"x\"/></r>";
+    let rows = [
+        fails(
+            &["canon", "doc=a", "id=x"],
+            two,
+            10,
+            b"xades: item 0 refused: A7\n",
+        ),
+        fails(
+            &["canon", "doc=a", "id=y"],
+            two,
+            10,
+            b"xades: item 0 refused: A6\n",
+        ),
+        fails(
+            &["canon", "doc=a", "id=x"],
+            b"<r xmlns:p=\"u\"><a p:id=\"x\"/></r>",
+            10,
+            b"xades: item 0 refused: A6\n",
+        ),
+        fails(&["canon", "doc=b"], b"<a/>", 3, b"xades: no such file: b\n"),
+    ];
+    compare_rows(&rt, &rt, &rows)
+}
+
+// Words that no command goes on with, and the number of the first of them.
+const STRAY: &[(&[&str], u8)] = &[
+    (&[], b'1'),
+    (&["frob"], b'1'),
+    (&["canon"], b'2'),
+    (&["canon", "doc="], b'2'),
+    (&["canon", "doc=a", "id="], b'3'),
+    (&["canon", "doc=a", "doc=a"], b'3'),
+    (&["canon", "doc=a", "form=both"], b'3'),
+    (&["canon", "doc=a", "comments=maybe"], b'3'),
+    (&["canon", "doc=a", "prefixes="], b'3'),
+    (&["canon", "doc=a", "prefixes=a,,b"], b'3'),
+    (&["canon", "doc=a", "prefixes=a:b"], b'3'),
+    (&["canon", "doc=a", "id=x", "id=x"], b'4'),
+    (&["canon", "doc=a", "comments=no", "form=exclusive"], b'4'),
+    (&["canon", "doc=a", "form=inclusive", "prefixes=a"], b'4'),
+    (
+        &[
+            "canon",
+            "doc=a",
+            "form=inclusive",
+            "comments=no",
+            "prefixes=a",
+        ],
+        b'5',
+    ),
+    (
+        &[
+            "canon",
+            "doc=a",
+            "form=exclusive",
+            "comments=no",
+            "prefixes=a,#default",
+            "id=x",
+            "x",
+        ],
+        b'7',
+    ),
+];
+
+#[test]
+fn stray_words(rt: HostRuntime) -> Result<(), Fail> {
+    'rows: for (number, (words, digit)) in STRAY.iter().enumerate() {
+        let answer = answer_of(&rt, words, b"<a/>", 100, &NONE)?;
+        let mut err = Octs::new(rt.alloc());
+        err.push_all(b"xades: word ")?;
+        err.push_all(&[*digit])?;
+        err.push_all(b" is not understood\n")?;
+        compare(&rt, number, &answer, 2, b"", err.as_slice());
     }
     Ok(())
 }

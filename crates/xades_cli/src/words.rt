@@ -1,76 +1,129 @@
 // The words of the command line.
-ghost use Rattle.std.specs.Prelude.{◌≡◌, ◌++◌, List, [], ◌∷◌, map, drop, length, string_bytes, Option, None, Some, true, false, MatchOption, MatchResult, nat_eq};
-ghost use Rattle.std.specs.List.{starts_with};
-ghost use Rattle.xades_cli.specs.Grammar.{IsFaultyWord, is_of_form, faulty_from};
-ghost use Rattle.xades_cli.specs.Words.{IsCommand, patterns, canon_behind, asked_by, asked_of, file_word};
+ghost use Rattle.std.specs.Prelude.{◌≡◌, List, map, string_bytes, IfOk, MatchOption, MatchResult};
+ghost use Rattle.word_patterns.specs.Grammar.{IsFaultyWord};
+ghost use Rattle.xades_cli.specs.Words.{patterns, IsCommand, IsWordFault, asked_by, asked_of, form_of, form_asked, if_any, option_now};
+
+use crate::status::Status;
+use std::alloc::Global;
+use word_patterns::{Part, TextForm, WordForm, faulty_word, text_behind};
+use xa_io::OutOfMemory;
+
+/// How a canonical form is named.
+#[derive(Clone, Copy, Debug)]
+pub struct Method<'a> {
+    /// Whether it is the inclusive form.
+    pub inclusive: bool,
+    /// Whether comments are written.
+    pub comments: bool,
+    /// The prefixes that an exclusive form treats as the inclusive one does, between commas.
+    pub prefixes: &'a str,
+}
 
 /// A command, with the names of its files.
 #[derive(Clone, Copy, Debug)]
 pub enum Command<'a> {
-    /// Write the canonical form of a document.
-    Canon { document: &'a str },
+    /// Write the canonical form of a document, or of the element with an identifier.
+    Canon {
+        document: &'a str,
+        method: Method<'a>,
+        id: Option<&'a str>,
+    },
 }
 
-// What stands behind the key.
-fn behind<'a>(word: &'a str, key: &str) -> Option<&'a str>
-    ensures { MatchOption result (starts_with nat_eq word.now key.now ≡ false) (λ text. (starts_with nat_eq word.now key.now ≡ true) × (text.now ≡ drop (length key.now) word.now)) }
+const CANON: Part<'static> = Part {
+    forms: &[WordForm::Plain("canon")],
+    least: 1,
+    most: 1,
+};
+
+const DOCUMENT: Part<'static> = Part {
+    forms: &[WordForm::Keyed("doc=", TextForm::FileName)],
+    least: 1,
+    most: 1,
+};
+
+const EXCLUSIVE: Part<'static> = Part {
+    forms: &[WordForm::Plain("form=exclusive")],
+    least: 0,
+    most: 1,
+};
+
+const INCLUSIVE: Part<'static> = Part {
+    forms: &[WordForm::Plain("form=inclusive")],
+    least: 1,
+    most: 1,
+};
+
+const COMMENTS: Part<'static> = Part {
+    forms: &[
+        WordForm::Plain("comments=no"),
+        WordForm::Plain("comments=yes"),
+    ],
+    least: 0,
+    most: 1,
+};
+
+const PREFIXES: Part<'static> = Part {
+    forms: &[WordForm::Keyed("prefixes=", TextForm::Prefixes)],
+    least: 0,
+    most: 1,
+};
+
+const ID: Part<'static> = Part {
+    forms: &[WordForm::Keyed("id=", TextForm::Text)],
+    least: 0,
+    most: 1,
+};
+
+const EXCLUSIVE_WORDS: &[Part<'static>] = &[CANON, DOCUMENT, EXCLUSIVE, COMMENTS, PREFIXES, ID];
+
+const INCLUSIVE_WORDS: &[Part<'static>] = &[CANON, DOCUMENT, INCLUSIVE, COMMENTS, ID];
+
+// The number of the faulty word, if there is one.
+fn faulty(alloc: Global, words: &[String]) -> Result<Option<u32>, OutOfMemory>
+    ensures { IfOk result (λ number. MatchOption number (IsCommand (map string_bytes words.now)) (λ at. IsFaultyWord patterns (map string_bytes words.now) at)) }
 {
-    word.strip_prefix(key)
+    faulty_word(alloc, &[EXCLUSIVE_WORDS, INCLUSIVE_WORDS], words)
 }
 
-// The name of a file behind the key.
-fn file_behind<'a>(word: &'a str, key: &str) -> Option<&'a str>
-    ensures { MatchOption result (is_of_form (file_word key.now) word.now ≡ false) (λ name. (is_of_form (file_word key.now) word.now ≡ true) × (starts_with nat_eq word.now key.now ≡ true) × (name.now ≡ drop (length key.now) word.now)) }
+// How the words name a canonical form.
+fn method_of<'a>(words: &'a [String]) -> Method<'a>
+    ensures { form_of result ≡ form_asked (map string_bytes words.now) }
 {
-    match behind(word, key) {
-        Some(name) => {
-            if name.len() >= 1 && name.len() <= 4096 {
-                Some(name)
-            } else {
-                None
-            }
-        }
-        None => None,
+    Method {
+        inclusive: text_behind("form=", words).as_bytes() == "inclusive".as_bytes(),
+        comments: text_behind("comments=", words).as_bytes() == "yes".as_bytes(),
+        prefixes: text_behind("prefixes=", words),
     }
 }
 
-// The words of `canon` behind the first.
-fn read_canon<'a>(words: &'a [String]) -> Result<Command<'a>, u32>
+// A text, where there is one.
+fn if_any<'a>(text: &'a str) -> Option<&'a str>
+    ensures { option_now result ≡ if_any text.now }
+{
+    if text.is_empty() { None } else { Some(text) }
+}
+
+// What the words of a command ask.
+fn command_of<'a>(words: &'a [String]) -> Command<'a>
+    ensures { asked_by (map string_bytes words.now) ≡ asked_of result }
+{
+    Command::Canon {
+        document: text_behind("doc=", words),
+        method: method_of(words),
+        id: if_any(text_behind("id=", words)),
+    }
+}
+
+/// The command that the words are; else the status that tells the first word, from 1, with which no command goes on.
+pub fn read_words<'a>(alloc: Global, words: &'a [String]) -> Result<Command<'a>, Status>
     ensures { MatchResult result
-        (λ command. (faulty_from 2 (canon_behind ∷ []) (map string_bytes words.now) ≡ None) × (asked_by (map string_bytes words.now) ≡ asked_of command))
-        (λ number. faulty_from 2 (canon_behind ∷ []) (map string_bytes words.now) ≡ Some number) }
+        (λ command. IsCommand (map string_bytes words.now) × (asked_by (map string_bytes words.now) ≡ asked_of command))
+        (λ status. IsWordFault (map string_bytes words.now) status) }
 {
-    match words {
-        [word] => match file_behind(word.as_str(), "doc=") {
-            Some(document) => Ok(Command::Canon { document }),
-            None => Err(2),
-        },
-        [word, _, ..] => match file_behind(word.as_str(), "doc=") {
-            Some(_) => Err(3),
-            None => Err(2),
-        },
-        [] => Err(2),
+    match faulty(alloc, words) {
+        Ok(None) => Ok(command_of(words)),
+        Ok(Some(index)) => Err(Status::BadWords { index }),
+        Err(OutOfMemory) => Err(Status::OutOfMemory),
     }
-}
-
-// The command that the words are, or the number of the faulty word.
-fn read_by_patterns<'a>(words: &'a [String]) -> Result<Command<'a>, u32>
-    ensures { MatchResult result
-        (λ command. (faulty_from 1 patterns (map string_bytes words.now) ≡ None) × (asked_by (map string_bytes words.now) ≡ asked_of command))
-        (λ number. faulty_from 1 patterns (map string_bytes words.now) ≡ Some number) }
-{
-    match words {
-        [command, rest @ ..] => match command.as_str() {
-            "canon" => read_canon(rest),
-            _ => Err(1),
-        },
-        [] => Err(1),
-    }
-}
-
-/// The command that the words are, or the number of the first word, from 1, with which no command goes on.
-pub fn read_words<'a>(words: &'a [String]) -> Result<Command<'a>, u32>
-    ensures { MatchResult result (λ command. IsCommand (map string_bytes words.now) × (asked_by (map string_bytes words.now) ≡ asked_of command)) (λ number. IsFaultyWord patterns (map string_bytes words.now) number) }
-{
-    read_by_patterns(words)
 }

@@ -22,6 +22,7 @@ pub enum Class {
     NotWhite,
 }
 
+#[inline(always)]
 pub fn has(class: Class, c: char) -> bool
     ensures { result ≡ passes class c }
 {
@@ -41,12 +42,14 @@ pub fn has(class: Class, c: char) -> bool
     }
 }
 
+#[inline(always)]
 pub fn is_char(n: u32) -> bool
     ensures { result ≡ Rattle.document_model.specs.Characters.is_char n }
 {
     matches!(n, 0x9..=0xA | 0xD | 0x20..=0xD7FF | 0xE000..=0xFFFD | 0x1_0000..=0x10_FFFF)
 }
 
+#[inline(always)]
 fn starts_name(n: u32) -> bool
     ensures { result ≡ Rattle.document_model.specs.Characters.starts_name n }
 {
@@ -70,6 +73,7 @@ fn starts_name(n: u32) -> bool
     )
 }
 
+#[inline(always)]
 fn continues_name(n: u32) -> bool
     ensures { result ≡ Rattle.document_model.specs.Characters.continues_name n }
 {
@@ -78,6 +82,7 @@ fn continues_name(n: u32) -> bool
 }
 
 // The longest front of characters of the class, and what is behind it.
+#[inline(always)]
 pub fn front<'a>(text: &'a str, class: Class) -> (&'a str, &'a str)
     ensures split { span (passes class) (chars text.now) ≡ (chars result.0.now, chars result.1.now) }
     ensures joined { result.0.now ++ result.1.now ≡ text.now }
@@ -95,6 +100,7 @@ pub fn front<'a>(text: &'a str, class: Class) -> (&'a str, &'a str)
 }
 
 // The first character, and what is behind it.
+#[inline(always)]
 pub fn first<'a>(text: &'a str) -> Option<(char, &'a str)>
     ensures chars { MatchOption result (length text.now ≡ 0) (λ r. chars text.now ≡ r.0 ∷ chars r.1.now) }
     ensures utf8 { IfSome result (λ r. IsUtf8 r.1.now) }
@@ -116,6 +122,7 @@ pub fn all(text: &str, class: Class) -> bool
 }
 
 // The first character, where it is of the class, and what is behind it.
+#[inline(always)]
 pub fn behind_one<'a>(text: &'a str, class: Class) -> Option<(char, &'a str)>
     ensures found { behind_one (passes class) (chars text.now) ≡ option_map (λ r. (r.0, chars r.1.now)) result }
     ensures utf8 { IfSome result (λ r. IsUtf8 r.1.now) }

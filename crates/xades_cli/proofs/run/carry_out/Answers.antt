@@ -1,10 +1,9 @@
 use Rattle.std.proofs.Common.{◌≡◌, [], map, string_bytes, sym, subst}
-use Rattle.xades_cli.specs.Grammar.{IsFaultyWord}
-use Rattle.xades_cli.specs.Words.{Asked, asked_by, asked_of, patterns}
+use Rattle.xades_cli.specs.Words.{Asked, asked_by, asked_of, IsWordFault}
 use Rattle.xades_cli.specs.Wanted.{fetch}
 use Rattle.xades_cli.specs.Outcomes.{wants_of}
 use Rattle.xades_cli.specs.Answers.{IsSized}
-use Rattle.xades_cli.proofs.RunLemmas.{no_command}
+use Rattle.xades_cli.proofs.WordLemmas.{stopped_right}
 use Rattle.xades_cli.proofs.run.carry_out.Goals as goal
 
 pub returns-in-Ok-clause-sized : goal.returns-in-Ok-clause-sized
@@ -15,5 +14,5 @@ returns-in-Ok-clause-sized g c = λ files e.
 
 pub returns-in-Err-clause-told : goal.returns-in-Err-clause-told
 returns-in-Err-clause-told g c = λ files e command.
-    let faulty : IsFaultyWord patterns (map string_bytes c.args.words.now.items) c.in-Err.index = rw (← c.as_slice.ensures.value) c.in-Err.ensures in
-    absurd (no_command (map string_bytes c.args.words.now.items) c.in-Err.index faulty command)
+    let fault : IsWordFault (map string_bytes c.args.words.now.items) c.in-Err.status = rw (← c.as_slice.ensures.value) c.in-Err.ensures in
+    rw c.early.ensures (stopped_right (map string_bytes c.args.words.now.items) c.in-Err.status (asked_by (map string_bytes c.args.words.now.items)) files _ _ fault command)

@@ -1,14 +1,11 @@
-use Rattle.std.proofs.Common.{◌∙◌}
-use Rattle.doc_spans.proofs.Calls.{start_within, attributes_value, no_attributes_value}
+use Rattle.std.proofs.Common.{◌∙◌, Some, None}
+use Rattle.doc_spans.specs.OpenTags.{tag_in}
+use Rattle.doc_spans.specs.Seen.{node_in}
+use Rattle.doc_spans.proofs.Calls.{attributes_of_tag}
 use Rattle.doc_spans.proofs.documents.Doc.attrs.Goals as goal
 
-pub next_item-requires : goal.next_item-requires
-next_item-requires c = start_within c.args.self.bytes.now c.args.self.tree.now c.args.node.0 c.row.result.now c.args.self.whole c.row.ensures
-
 pub returns-in-Some : goal.returns-in-Some
-returns-in-Some c =
-    c.attributes_found.ensures
-    ∙ attributes_value c.args.self.bytes.now c.args.self.tree.now c.args.node.0 c.row.result.now c.in-Some.scanned c.args.self.whole c.row.ensures c.in-Some.ensures.item
+returns-in-Some c = c.of.ensures ∙ attributes_of_tag (node_in c.args.self c.args.node) (Some (tag_in c.in-Some.tag)) c.in-Some.ensures
 
 pub returns-in-None : goal.returns-in-None
-returns-in-None c = no_attributes_value c.args.self.bytes.now c.args.self.tree.now c.args.node.0 c.row.result.now _ c.args.self.whole c.row.ensures c.in-None.ensures.item
+returns-in-None c = c.none.ensures ∙ attributes_of_tag (node_in c.args.self c.args.node) None c.in-None.ensures

@@ -1,18 +1,12 @@
-use Rattle.std.proofs.Common.{◌∙◌, sym}
+use Rattle.std.proofs.Common.{Some, None, ◌∙◌}
 use Rattle.std.specs.Str.{chars}
+use Rattle.xml_items.specs.Found.{value_in}
 use Rattle.doc_spans.specs.ScopesIn.{scope_in}
-use Rattle.doc_spans.proofs.ScopeSteps.{xml_value, xml_text, xmlns_value, xmlns_text, xml_bound, xmlns_bound}
+use Rattle.doc_spans.proofs.ScopeSteps.{space_by_bound}
 use Rattle.doc_spans.proofs.soundness.Scope.space_of.Goals as goal
 
-pub returns-then-is-clause-value : goal.returns-then-is-clause-value
-returns-then-is-clause-value c = xml_value ∙ sym (xml_bound (chars c.args.prefix.now) (scope_in c.args.self.now) (sym c.is.ensures ∙ c.if-is.true))
+pub returns-in-Some-clause-value : goal.returns-in-Some-clause-value
+returns-in-Some-clause-value c = space_by_bound (chars c.args.prefix.now) (scope_in c.args.self.now) (Some (value_in (chars c.in-Some.space.now))) c.in-Some.ensures.value
 
-pub returns-then-is-clause-read : goal.returns-then-is-clause-read
-returns-then-is-clause-read c = xml_text
-
-pub returns-then-is-2-clause-value : goal.returns-then-is-2-clause-value
-returns-then-is-2-clause-value c =
-    xmlns_value ∙ sym (xmlns_bound (chars c.args.prefix.now) (scope_in c.args.self.now) (sym c.is.ensures ∙ c.if-is.false) (sym c.is-else-is.ensures ∙ c.if-is-2.true))
-
-pub returns-then-is-2-clause-read : goal.returns-then-is-2-clause-read
-returns-then-is-2-clause-read c = xmlns_text
+pub returns-in-None-clause-value : goal.returns-in-None-clause-value
+returns-in-None-clause-value c = c.declared_space.ensures.value ∙ space_by_bound (chars c.args.prefix.now) (scope_in c.args.self.now) None c.in-None.ensures.value

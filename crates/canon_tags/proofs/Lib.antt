@@ -1,0 +1,11 @@
+pub mod Ordered
+pub mod ScopeLists
+pub mod StackLists
+pub mod Lookups
+pub mod Sorting
+pub mod ScopeStacks
+pub mod WrittenTexts
+pub mod InheritedEntries
+pub mod ListWords
+pub mod AttributeTexts
+pub mod Entering

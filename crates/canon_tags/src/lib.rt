@@ -1,0 +1,21 @@
+//! The start tag of an element in canonical form, by both rules: Canonical XML 1.0 and Exclusive XML Canonicalization 1.0.
+#![tactic(auto)]
+
+mod around;
+mod attributes;
+mod declarations;
+mod entries;
+mod entry_lists;
+mod opened;
+mod orders;
+mod prefixes;
+mod rules;
+mod scopes;
+mod sought;
+mod writing;
+
+pub use around::{Around, Outside};
+pub use rules::{Prefixes, Rule};
+
+#[cfg(test)]
+mod tests;

@@ -1,0 +1,4 @@
+mod Cursors
+pub mod GrammarLemmas
+mod KeyTexts
+mod PrefixTexts

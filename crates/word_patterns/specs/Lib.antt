@@ -1,0 +1,4 @@
+pub mod Good
+pub mod Grammar
+pub mod Patterns
+pub mod TextForms

@@ -1,0 +1,16 @@
+//! The words of a command line: which patterns they fit, and the first word with which none goes on.
+#![tactic(auto)]
+
+mod keys;
+mod lookup;
+mod patterns;
+mod search;
+mod text_forms;
+
+pub use lookup::text_behind;
+pub use patterns::{Part, WordForm};
+pub use search::faulty_word;
+pub use text_forms::TextForm;
+
+#[cfg(test)]
+mod tests;
