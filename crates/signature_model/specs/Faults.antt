@@ -1,0 +1,47 @@
+-- What a signature may lack: the words of its lines, and the faults of its parts. This project's own.
+use Rattle.std.specs.Prelude.{if◌then◌else◌, List, [], ◌∷◌, map, Option, Some, None}
+use Rattle.document_model.specs.Tree.{Path}
+use Rattle.document_model.specs.Canonical.{is_before}
+
+-- the lines of a signature's shape, in their order
+pub data What : Type 0 where
+  Parts : What
+  Info : What
+  Form : What
+  Method : What
+  Reference : What
+  Qualifying : What
+  Properties : What
+  Covered : What
+  Signed : What
+  DataObject : What
+  Key : What
+  Value : What
+  Stamp : What
+  Values : What
+
+pub record ShapeFault : Type 0 where
+  pub what : What
+  pub place : Path
+
+-- A place is an element's path. Paths in this order are elements in document order.
+
+abbrev pub earlier : Path → Option Path → Path
+earlier place None = place
+earlier place (Some other) = if is_before other place then other else place
+
+abbrev pub first_place : List Path → Option Path
+first_place [] = None
+first_place (place ∷ places) = Some (earlier place (first_place places))
+
+abbrev pub sooner : ShapeFault → Option ShapeFault → ShapeFault
+sooner fault None = fault
+sooner fault (Some other) = if is_before other.place fault.place then other else fault
+
+-- the fault with the first place; of several there the first one
+abbrev pub first_fault : List ShapeFault → Option ShapeFault
+first_fault [] = None
+first_fault (fault ∷ faults) = Some (sooner fault (first_fault faults))
+
+abbrev pub of_line : What → List Path → List ShapeFault
+of_line what places = map (λ place. record { what = what; place = place }) places

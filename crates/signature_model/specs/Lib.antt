@@ -1,0 +1,15 @@
+pub mod Vocabulary
+pub mod Spots
+pub mod Base64
+pub mod Parts
+pub mod Faults
+pub mod Holding
+pub mod Shape
+pub mod Readable
+pub mod Chains
+pub mod Octets
+pub mod Covers
+pub mod Fragments
+pub mod Prepared
+pub mod Keeping
+pub mod Agreeing
