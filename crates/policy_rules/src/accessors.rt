@@ -48,7 +48,8 @@ fn names(entry: &KindEntry, uri: &str) -> bool
 impl Policy {
     /// The version of the text's format, which is 1.
     pub fn version(&self) -> u32
-        ensures { result ≡ (rules self.now).version }
+        ensures value { result ≡ (rules self.now).version }
+        ensures one { result ≡ 1 }
     {
         self.version
     }

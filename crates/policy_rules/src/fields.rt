@@ -1,6 +1,6 @@
 //! The fields of a table.
 
-ghost use Rattle.std.specs.Prelude.{◌≡◌, None, Some, is_none, option_map};
+ghost use Rattle.std.specs.Prelude.{◌≡◌, None, Some, is_none, option_map, IfOk};
 ghost use Rattle.toml.specs.Data.{get_member};
 ghost use Rattle.toml.specs.View.{view, table_view, array_view};
 ghost use Rattle.utc_times.specs.TimeText.{time_of};
@@ -56,7 +56,8 @@ pub(crate) fn list_at<'a>(key: &str, table: &'a Table) -> Result<&'a Array, Fiel
 /// The version, of which there is one alone.
 #[tactic(auto, unfolding(crate::specs::Fields::version_of))]
 pub(crate) fn version(table: &Table) -> Result<u32, FieldError>
-    ensures { GivesValue (λ v. v) result (meaning.version_of (table_view table.now)) }
+    ensures value { GivesValue (λ v. v) result (meaning.version_of (table_view table.now)) }
+    ensures one { IfOk result (λ v. v ≡ 1) }
 {
     let Some(value) = value_at("version", table) else {
         return Err(FieldError::Refused);

@@ -1,5 +1,6 @@
 //! Policies.
 
+ghost use Rattle.std.specs.Prelude.{◌≡◌};
 ghost use Rattle.policy_rules.specs.Whole.{AreWhole};
 
 use crate::entries::{DigestEntry, KindEntry};
@@ -12,4 +13,5 @@ pub struct Policy {
     pub(crate) kinds: Vec<KindEntry>,
     pub(crate) digests: Vec<DigestEntry>,
     ghost whole: { AreWhole anchors.items },
+    ghost version_is: { version ≡ 1 },
 }

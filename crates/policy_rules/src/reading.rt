@@ -36,7 +36,8 @@ fn read_table(alloc: Global, bytes: &[u8]) -> Result<Table, PolicyFault>
 }
 
 fn version_field(alloc: Global, table: &Table) -> Result<u32, PolicyFault>
-    ensures { Gives (λ v. v) result (of_field (codes "version") (meaning.version_of (table_view table.now))) }
+    ensures value { Gives (λ v. v) result (of_field (codes "version") (meaning.version_of (table_view table.now))) }
+    ensures one { IfOk result (λ v. v ≡ 1) }
 {
     match version(table) {
         Ok(version) => Ok(version),

@@ -1,0 +1,11 @@
+pub mod Certificates
+pub mod Tokens
+pub mod Objects
+pub mod Policy
+pub mod Walks
+pub mod Stamping
+pub mod Times
+pub mod Verdict
+pub mod Rounds
+pub mod Laws
+pub mod Last

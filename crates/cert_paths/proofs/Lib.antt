@@ -1,0 +1,10 @@
+pub mod NotBoth
+pub mod HeldLaws
+pub mod PoolLaws
+pub mod TableLaws
+pub mod GatherLaws
+pub mod StatusLaws
+pub mod Steps
+pub mod Numbers
+pub mod Revoked
+pub mod Linked

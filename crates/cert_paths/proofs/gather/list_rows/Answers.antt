@@ -1,0 +1,18 @@
+use Rattle.std.proofs.Common.{List, subst, sym, arith}
+use Rattle.cert_paths.specs.declared.rows.ListRow.{ListRow}
+use Rattle.cert_paths.specs.Rows.{AreListsTo}
+use Rattle.cert_paths.proofs.GatherLaws.{lists_none, lists_all}
+use Rattle.cert_paths.proofs.gather.list_rows.Goals as goal
+
+pub loop-number-init : goal.loop-number-init
+loop-number-init c = subst (λ (rows : List ListRow). AreListsTo c.args.pool.now rows 0) (sym c.new-rows.ensures.items) (lists_none c.args.pool.now)
+
+pub loop-number-preserved : goal.loop-number-preserved
+loop-number-preserved c =
+    c.in_ok-put_list.ensures c.args.pool.now c.loop-number.number c.loop-number.invariant c.part.ensures (c.read.ensures c.part.result.number c.part.ensures)
+
+pub returns : goal.returns
+returns c =
+    let end = c.parts-number-end.ensures.count in
+    let test = c.loop-number-test.false in
+    lists_all c.args.pool.now c.loop-number.rows.items c.loop-number.number (omega arith) c.loop-number.invariant

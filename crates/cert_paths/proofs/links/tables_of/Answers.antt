@@ -1,0 +1,14 @@
+use Rattle.cert_paths.proofs.GatherLaws.{signed_over, speaks_over, dates_over, issuers_over}
+use Rattle.cert_paths.proofs.links.tables_of.Goals as goal
+
+pub returns-clause-tied : goal.returns-clause-tied
+returns-clause-tied c = record {
+  certs = c.in_ok-certs.ensures.rows;
+  few = c.in_ok-certs.ensures.few;
+  distinct = c.in_ok-certs.ensures.distinct;
+  issuers = issuers_over _ _ _ _ c.as_slice.ensures.value c.in_ok-issuers.ensures;
+  lists = c.in_ok-lists.ensures;
+  signed = signed_over _ _ _ _ _ c.as_slice-2.ensures.value c.as_slice-3.ensures.value c.in_ok-signed.ensures;
+  speaks = speaks_over _ _ _ _ _ c.as_slice-4.ensures.value c.as_slice-5.ensures.value c.in_ok-speaks.ensures;
+  dates = dates_over _ _ _ _ _ c.as_slice-6.ensures.value c.as_slice-7.ensures.value c.in_ok-dates.ensures;
+}

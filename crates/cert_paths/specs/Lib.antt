@@ -1,0 +1,10 @@
+pub mod Pool
+pub mod Held
+pub mod Numbered
+pub mod Tables
+pub mod Rows
+pub mod Chart
+pub mod Speaks
+pub mod Status
+pub mod Origin
+pub mod Tied

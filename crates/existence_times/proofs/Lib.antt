@@ -1,0 +1,5 @@
+pub mod Steps
+pub mod Reached
+pub mod CaseLaws
+pub mod TokenLaws
+pub mod CaseSteps

@@ -1,0 +1,10 @@
+use Rattle.x509_certs.specs.View.{certificate_bytes}
+use Rattle.acceptance.specs.Certificates.{Member}
+use Rattle.acceptance.specs.Objects.{certificate_of}
+use Rattle.trust_rows.proofs.walks.is_complete.Goals as goal
+
+pub complete-requires : goal.complete-requires
+unfolding certificate_of
+complete-requires c =
+    let m : Member = record { number = c.in-Ok-add.field-0.number; certificate = certificate_of (certificate_bytes c.in-Ok.certificate) } in
+    record { leaf = (m, c.in-Ok-add.ensures.number, c.in-Ok.ensures.ok) }
