@@ -3,6 +3,7 @@
 ghost use Rattle.std.specs.Prelude.{◌≡◌, Some, IfSome, IfNone, []};
 ghost use Rattle.std.specs.Prelude.{option_map};
 ghost use Rattle.std.specs.Str.{chars};
+ghost use Rattle.document_model.specs.Canonical.{is_before};
 ghost use Rattle.document_model.specs.Characters.{◌is◌};
 ghost use Rattle.document_model.specs.NodeSets.{is_within};
 ghost use Rattle.xml_items.specs.Items.{IsRead};
@@ -134,6 +135,15 @@ impl<'a> Doc<'a> {
                 None => return false,
             }
         }
+    }
+
+    /// Whether a node stands before another one in document order: a node stands before those below it, and before those behind it.
+    pub fn is_before(self, a: NodeId, b: NodeId) -> bool
+        requires first { Has self a }
+        requires second { Has self b }
+        ensures { result ≡ is_before (path_in self.entry a) (path_in self.entry b) }
+    {
+        self.tree.row(a.0).start < self.tree.row(b.0).start
     }
 
     /// What kind of node it is.

@@ -180,3 +180,16 @@ fn gives_the_characters_of_a_text(rt: HostRuntime) -> Result<(), Fail> {
     assert!(rt; doc.is_within(root, text) && !doc.is_within(text, root));
     Ok(())
 }
+
+#[test]
+fn tells_document_order(rt: HostRuntime) -> Result<(), Fail> {
+    let mut steps: Steps<Ledger> = Steps::new();
+    let tree = Tree::read(rt.alloc(), PARTS, &mut steps)?;
+    let doc = Doc::of(PARTS, &tree);
+    let root = doc.root();
+    let text = first_below(doc).expect(&rt, "a text");
+    assert!(rt; doc.is_before(root, text));
+    assert!(rt; !doc.is_before(text, root));
+    assert!(rt; !doc.is_before(text, text));
+    Ok(())
+}

@@ -13,3 +13,4 @@ pub mod Targets
 mod Forms
 pub mod Joins
 pub mod Extending
+pub mod ListOrder

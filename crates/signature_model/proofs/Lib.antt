@@ -27,3 +27,4 @@ mod Shapes
 mod Refs
 mod Items
 mod Digest
+pub mod FirstFaults

@@ -43,5 +43,23 @@ abbrev pub first_fault : List ShapeFault → Option ShapeFault
 first_fault [] = None
 first_fault (fault ∷ faults) = Some (sooner fault (first_fault faults))
 
+-- One after another, from the front: what is kept of those so far, with one more. Of two at one place the one that was there is kept.
+
+abbrev pub with_place : Path → Option Path → Option Path
+with_place place None = Some place
+with_place place (Some kept) = if is_before place kept then Some place else Some kept
+
+abbrev pub with_places : List Path → Option Path → Option Path
+with_places [] kept = kept
+with_places (place ∷ places) kept = with_places places (with_place place kept)
+
+abbrev pub with_fault : ShapeFault → Option ShapeFault → Option ShapeFault
+with_fault fault None = Some fault
+with_fault fault (Some kept) = if is_before fault.place kept.place then Some fault else Some kept
+
+abbrev pub with_faults : List ShapeFault → Option ShapeFault → Option ShapeFault
+with_faults [] kept = kept
+with_faults (fault ∷ faults) kept = with_faults faults (with_fault fault kept)
+
 abbrev pub of_line : What → List Path → List ShapeFault
 of_line what places = map (λ place. record { what = what; place = place }) places
