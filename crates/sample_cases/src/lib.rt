@@ -1,0 +1,14 @@
+//! Cases for tests and benches: a policy that trusts one certificate, and objects that are put into a case by their octets.
+#![tactic(auto)]
+
+mod fault;
+mod parts;
+mod policy;
+mod stamps;
+mod times;
+
+pub use fault::CaseFault;
+pub use parts::{put_certificate, put_list};
+pub use policy::trusting;
+pub use stamps::{put_stamp, put_token};
+pub use times::earliest_times;
