@@ -1,0 +1,5 @@
+pub mod Named
+pub mod Spotted
+pub mod Laws
+pub mod Texted
+pub mod Tallies

@@ -1,0 +1,9 @@
+pub mod Named
+pub mod Adding
+pub mod Scanning
+pub mod AnyOrder
+pub mod Spread
+pub mod FromNone
+pub mod NoneLeft
+pub mod LineEach
+pub mod LineFaults

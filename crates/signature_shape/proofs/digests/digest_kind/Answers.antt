@@ -1,0 +1,14 @@
+use Rattle.std.proofs.Common.{Some, None, refl, codes, ap, ◌∙◌}
+use Rattle.std.specs.Prelude.{option_and_then}
+use Rattle.doc_spans.specs.Pieces.{characters_left}
+use Rattle.signature_model.specs.Vocabulary.{digest_named}
+use Rattle.signature_elements.specs.Standing.{spot_of}
+use Rattle.signature_shape.proofs.Named.{attribute_as}
+use Rattle.signature_shape.proofs.digests.digest_kind.Goals as goal
+
+pub returns-in-Some : goal.returns-in-Some
+returns-in-Some c =
+    c.digest_named.ensures ∙ ap (option_and_then digest_named) (attribute_as (spot_of c.args.doc c.args.method) (codes "Algorithm") _ refl c.in-Some.ensures)
+
+pub returns-in-None : goal.returns-in-None
+returns-in-None c = ap (option_and_then digest_named) (attribute_as (spot_of c.args.doc c.args.method) (codes "Algorithm") None refl c.in-None.ensures)

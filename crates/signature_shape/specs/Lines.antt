@@ -1,0 +1,45 @@
+-- Faults that elements of a line share, and lines together.
+use Rattle.std.specs.Prelude.{◌++◌, List, [], codes, filter, if◌then◌else◌, is_none, not}
+use Rattle.document_model.specs.Characters.{is_empty}
+use Rattle.document_model.specs.Tree.{Nodes, Path}
+use Rattle.signature_model.specs.Faults.{ShapeFault, of_line}
+use Rattle.signature_model.specs.Faults as words
+use Rattle.signature_model.specs.Parts.{form_in, objects, qualifying_objects}
+use Rattle.signature_model.specs.Shape.{id_of, or_first, points_to, parts_line, info_line, form_line, method_line, reference_line, qualifying_line, properties_line, covered_line, signed_line, data_object_line, key_line, value_line, stamp_line, values_line}
+use Rattle.signature_model.specs.Spots.{Spot, attribute, paths}
+
+-- methods that name no canonical form
+abbrev pub formless : Nodes → List Spot → List Path
+formless document methods = paths (filter (λ method. is_none (form_in document method)) methods)
+
+-- where no object holds qualifying properties: the first object, or else the signature
+abbrev pub without_holder : Nodes → Spot → List Path
+without_holder document signature =
+    if is_empty (qualifying_objects document signature) then or_first (objects document signature) signature else []
+
+-- qualifying properties whose Target isn't the signature
+abbrev pub pointing_elsewhere : Spot → List Spot → List Path
+pointing_elsewhere signature properties =
+    paths (filter (λ spot. not (points_to (attribute (codes "Target") spot) (id_of signature))) properties)
+
+-- the lines on the parts of a signature and on where its properties stand, in their order
+abbrev pub outer_lines : Nodes → Spot → List ShapeFault
+outer_lines document signature =
+    of_line words.Parts (parts_line document signature)
+    ++ of_line words.Info (info_line document signature)
+    ++ of_line words.Form (form_line document signature)
+    ++ of_line words.Method (method_line document signature)
+    ++ of_line words.Reference (reference_line document signature)
+    ++ of_line words.Qualifying (qualifying_line document signature)
+    ++ of_line words.Properties (properties_line document signature)
+
+-- the lines on what the properties, the key, the value and the time-stamps hold, in their order
+abbrev pub inner_lines : Nodes → Spot → List ShapeFault
+inner_lines document signature =
+    of_line words.Covered (covered_line document signature)
+    ++ of_line words.Signed (signed_line document signature)
+    ++ of_line words.DataObject (data_object_line document signature)
+    ++ of_line words.Key (key_line document signature)
+    ++ of_line words.Value (value_line document signature)
+    ++ of_line words.Stamp (stamp_line document signature)
+    ++ of_line words.Values (values_line document signature)
