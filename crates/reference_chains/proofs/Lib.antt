@@ -1,0 +1,6 @@
+pub mod Words
+pub mod Files
+pub mod Steps
+pub mod HeldTexts
+pub mod Taken
+pub mod Meanings

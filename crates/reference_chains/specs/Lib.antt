@@ -1,0 +1,8 @@
+pub mod HandedIn
+pub mod Places
+pub mod ChainsIn
+pub mod ChainSteps
+pub mod DigestKinds
+pub mod References
+pub mod SetTexts
+pub mod Decoding
