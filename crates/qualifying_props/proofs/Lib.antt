@@ -1,0 +1,11 @@
+pub mod Reading
+pub mod Listing
+pub mod Gathering
+pub mod FirstBytes
+pub mod Finding
+pub mod Shaped
+pub mod Positions
+pub mod DataOfKind
+pub mod FirstBad
+pub mod Signing
+pub mod Answering

@@ -1,0 +1,10 @@
+pub mod Whole
+pub mod Data
+pub mod Begins
+pub mod Digests
+pub mod Shown
+pub mod PartsOf
+pub mod Properties
+pub mod Nodes
+pub mod Collected
+pub mod Answers
