@@ -9,17 +9,19 @@ use Rattle.document_model.specs.Items.{Attribute}
 use Rattle.document_model.specs.Scopes.{Tag}
 use Rattle.document_model.specs.Canonical.{Rule, Inclusive, Exclusive, Around, declared_as, declarations, declared_prefixes, is_among, is_written, with_inherited, attributes_of}
 use Rattle.canon_tags.specs.declared.around.Outside.{Outside}
-use Rattle.canon_tags.specs.declared.declarations.Declaration.{Declaration}
-use Rattle.canon_tags.specs.declared.opened.Opened.{Opened}
+use Rattle.doc_spans.specs.declared.declarations.Declaration.{Declaration}
+use Rattle.doc_spans.specs.declared.opened.Opened.{Opened}
 use Rattle.canon_tags.specs.Around.{left_to}
-use Rattle.canon_tags.specs.Declarations.{declaration_in, nearest_first}
+use Rattle.doc_spans.specs.Declarations.{declaration_in, nearest_first}
 use Rattle.canon_tags.specs.Givers.{givers_by}
-use Rattle.canon_tags.specs.Opened.{opened_in}
+use Rattle.doc_spans.specs.Opened.{opened_in}
 use Rattle.canon_tags.specs.Own.{own_prefixes}
-use Rattle.canon_tags.specs.Scoped.{scope_of, prefixes_of, space_in, gathered_by}
-use Rattle.canon_tags.specs.Stacked.{stacked}
-use Rattle.canon_tags.proofs.ScopeLists.{space_same, written_prefixes}
-use Rattle.canon_tags.proofs.StackLists.{stacked_parts}
+use Rattle.doc_spans.specs.Scoped.{scope_of, space_in}
+use Rattle.canon_tags.specs.Scoped.{prefixes_of, gathered_by}
+use Rattle.doc_spans.specs.Stacked.{stacked}
+use Rattle.doc_spans.proofs.ScopeLists.{space_same}
+use Rattle.canon_tags.proofs.ScopeLists.{written_prefixes}
+use Rattle.doc_spans.proofs.StackLists.{stacked_parts}
 
 -- the prefixes of declarations, in the code's order and with the nearest first
 

@@ -4,12 +4,12 @@ use Rattle.std.specs.Prelude.{filter}
 use Rattle.document_model.specs.Items.{Attribute}
 use Rattle.document_model.specs.Scopes.{Tag}
 use Rattle.document_model.specs.Canonical.{with_inherited}
-use Rattle.canon_tags.specs.declared.opened.Opened.{Opened}
+use Rattle.doc_spans.specs.declared.opened.Opened.{Opened}
 use Rattle.canon_tags.specs.Entries.{Named, named, attributes_of_entries, inherited_of}
-use Rattle.canon_tags.specs.Opened.{opened_tag, opened_in}
-use Rattle.canon_tags.proofs.Lookups.{take_to}
+use Rattle.doc_spans.specs.Opened.{opened_tag, opened_in}
+use Rattle.doc_spans.proofs.Lookups.{take_to}
 use Rattle.canon_tags.proofs.Sorting.{map_join, take_all}
-use Rattle.canon_tags.proofs.StackLists.{stacked_push}
+use Rattle.doc_spans.proofs.StackLists.{stacked_push}
 
 pub named_back : (scope attributes : List Attribute) → attributes_of_entries (map (named scope) attributes) ≡ attributes
 named_back scope [] = refl

@@ -1,6 +1,5 @@
 pub mod Ordered
 pub mod ScopeLists
-pub mod StackLists
 pub mod Lookups
 pub mod Sorting
 pub mod ScopeStacks

@@ -3,9 +3,9 @@ use Rattle.std.specs.Prelude.{◌≡◌, ◌-◌, List, [], drop, length, map, i
 use Rattle.document_model.specs.Items.{Attribute}
 use Rattle.document_model.specs.Canonical.{declared_as}
 use Rattle.document_model.specs.Canonical as canonical
-use Rattle.canon_tags.specs.Declarations.{nearest_first}
-use Rattle.canon_tags.specs.Scoped.{space_in}
-use Rattle.canon_tags.specs.Scopes.{tags_around}
+use Rattle.doc_spans.specs.Declarations.{nearest_first}
+use Rattle.doc_spans.specs.Scoped.{space_in}
+use Rattle.doc_spans.specs.Scopes.{tags_around}
 use Rattle.canon_tags.specs.Texts.{texts_in}
 use Rattle.canon_tags.specs.declared.around.Around.{Around}
 use Rattle.canon_tags.specs.declared.around.Outside.{Outside}

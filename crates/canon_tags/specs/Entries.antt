@@ -6,7 +6,7 @@ use Rattle.document_model.specs.Names.{Expanded, spelled}
 use Rattle.document_model.specs.Items.{Attribute}
 use Rattle.document_model.specs.Canonical.{is_name_before, is_declaration, is_xml, has_local, attribute_text}
 use Rattle.xml_items.specs.Found.{value_in}
-use Rattle.canon_tags.specs.Scoped.{space_in}
+use Rattle.doc_spans.specs.Scoped.{space_in}
 use Rattle.canon_tags.specs.declared.entries.Entry.{Entry}
 
 pub record Named : Type 0 where

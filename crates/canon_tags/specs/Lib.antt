@@ -2,11 +2,6 @@ pub mod Scoped
 pub mod Words
 pub mod Sought
 pub mod Rules
-pub mod Stacked
-pub mod Declarations
-pub mod Looked
-pub mod Opened
-pub mod Scopes
 pub mod Around
 pub mod Texts
 pub mod Entries

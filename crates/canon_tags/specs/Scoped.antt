@@ -1,36 +1,14 @@
--- Declarations in scope, as a list with the nearest first, and the prefixes whose declarations a tag may write.
-use Rattle.std.specs.Prelude.{ℕ, Bool, true, not, ◌&&◌, ◌||◌, if◌then◌else◌, List, [], ◌∷◌, map, Option, Some, None, codes}
+-- The prefixes of declarations in scope, and those whose declarations a tag may write.
+use Rattle.std.specs.Prelude.{ℕ, Bool, true, not, ◌&&◌, ◌||◌, if◌then◌else◌, List, [], ◌∷◌, map, codes}
 use Rattle.std.specs.List.{list_all}
-use Rattle.std.specs.Option.{option_map_or}
 use Rattle.document_model.specs.Characters.{◌is◌, is_empty}
 use Rattle.document_model.specs.Items.{Attribute}
-use Rattle.document_model.specs.Scopes.{Tag, xml_space, xmlns_space, declared_prefix}
-use Rattle.document_model.specs.Canonical.{Rule, Inclusive, Exclusive, declared_as, rendered_value, is_among, is_before, with_prefix}
-
--- the declarations of a tag, before those around it
-abbrev pub with_declarations : List Attribute → List Attribute → List Attribute
-with_declarations [] scope = scope
-with_declarations (a ∷ attributes) scope =
-    option_map_or (λ prefix. declared_as prefix a.value ∷ with_declarations attributes scope) (declared_prefix a) (with_declarations attributes scope)
-
--- the declarations in the scope of elements, the innermost first
-abbrev pub scope_of : List Tag → List Attribute
-scope_of [] = []
-scope_of (tag ∷ outer) = with_declarations tag.attributes (scope_of outer)
+use Rattle.document_model.specs.Scopes.{Tag}
+use Rattle.doc_spans.specs.Scoped.{space_in}
+use Rattle.document_model.specs.Canonical.{Rule, Inclusive, Exclusive, rendered_value, is_among, is_before, with_prefix}
 
 abbrev pub prefixes_of : List Attribute → List (List ℕ)
 prefixes_of scope = map (λ a. a.name.local) scope
-
--- the value of the nearest declaration of a prefix
-abbrev pub declared_in : List ℕ → List Attribute → Option (List ℕ)
-declared_in prefix [] = None
-declared_in prefix (a ∷ scope) = if a.name.local is prefix then Some a.value else declared_in prefix scope
-
--- the value of a prefix
-abbrev pub space_in : List ℕ → List Attribute → List ℕ
-space_in prefix scope =
-    if prefix is codes "xml" then xml_space
-    else (if prefix is codes "xmlns" then xmlns_space else rendered_value prefix scope)
 
 -- whether it is declared; the default is there for all
 abbrev pub is_bound : List ℕ → List Attribute → Bool

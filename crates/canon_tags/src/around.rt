@@ -6,19 +6,19 @@ ghost use Rattle.document_model.specs.Scopes.{Tag};
 ghost use Rattle.document_model.specs.Canonical.{Around as Surroundings, at_apex, inside, start_text, declarations, declaration_text, attributes_text};
 ghost use Rattle.doc_spans.specs.OpenTags.{tag_in};
 ghost use Rattle.canon_tags.specs.Rules.{rule_in};
-ghost use Rattle.canon_tags.specs.Declarations.{nearest_first};
+ghost use Rattle.doc_spans.specs.Declarations.{nearest_first};
 ghost use Rattle.canon_tags.specs.Entries.{entries_in, entries_text};
-ghost use Rattle.canon_tags.specs.Scopes.{tags_around};
+ghost use Rattle.doc_spans.specs.Scopes.{tags_around};
 ghost use Rattle.canon_tags.specs.Givers.{givers_by};
 
 use crate::attributes::arrange;
-use crate::declarations::{Declaration, Declared};
 use crate::entries::Entry;
 use crate::entry_lists::put_entries;
 use crate::prefixes::{gather, keep_rendered, put_declarations};
 use crate::rules::Rule;
-use crate::scopes::Scopes;
 use doc_spans::OpenTag;
+use doc_spans::declarations::{Declaration, Declared};
+use doc_spans::stacks::Scopes;
 use std::alloc::{AllocError, Global};
 use xa_io::{Octs, OutOfMemory};
 

@@ -3,14 +3,11 @@
 
 mod around;
 mod attributes;
-mod declarations;
 mod entries;
 mod entry_lists;
-mod opened;
 mod orders;
 mod prefixes;
 mod rules;
-mod scopes;
 mod sought;
 mod writing;
 

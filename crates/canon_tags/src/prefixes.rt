@@ -7,18 +7,19 @@ ghost use Rattle.document_model.specs.Canonical.{is_before, placed, is_among, wi
 ghost use Rattle.xml_items.specs.Attributes.{attributes_left};
 ghost use Rattle.doc_spans.specs.OpenTags.{tag_in};
 ghost use Rattle.canon_tags.specs.Rules.{prefixes_in, rule_in};
-ghost use Rattle.canon_tags.specs.Scoped.{prefixes_of, is_bound, changes_in, is_unrendered_in, is_declared_anew, is_rendered_anew, with_used, used_by, gathered, gathered_by, space_in};
-ghost use Rattle.canon_tags.specs.Declarations.{nearest_first};
-ghost use Rattle.canon_tags.specs.Looked.{declared};
+ghost use Rattle.doc_spans.specs.Scoped.{space_in};
+ghost use Rattle.canon_tags.specs.Scoped.{prefixes_of, is_bound, changes_in, is_unrendered_in, is_declared_anew, is_rendered_anew, with_used, used_by, gathered, gathered_by};
+ghost use Rattle.doc_spans.specs.Declarations.{nearest_first};
+ghost use Rattle.doc_spans.specs.Looked.{declared};
 ghost use Rattle.canon_tags.specs.Texts.{texts_in};
 ghost use Rattle.canon_tags.specs.Own.{own_prefixes};
 
-use crate::declarations::{Declaration, Declared};
 use crate::orders::is_before;
 use crate::rules::{Prefixes, Rule};
-use crate::scopes::Scopes;
 use crate::writing::put_declaration;
 use doc_spans::OpenTag;
+use doc_spans::declarations::{Declaration, Declared};
+use doc_spans::stacks::Scopes;
 use std::alloc::AllocError;
 use xa_io::{Octs, OutOfMemory};
 use xml_items::attribute_walk::Attributes;

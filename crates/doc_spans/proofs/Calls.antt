@@ -268,6 +268,11 @@ pub start_within : (bytes : List ℕ) (shown : Shown) (k : ℕ) (row : Row) → 
 start_within bytes shown k row whole shows =
     ∥∥₁_elim whole (le_is_prop row.start (length bytes)) (λ w. start_of bytes (place_of_row (path_at shown k) row) (stands_at shown bytes k _ w shows.place).0)
 
+-- an item begins at it
+pub item_stands : (bytes : List ℕ) (shown : Shown) (k : ℕ) (row : Row) → ∥ IsShownOf shown bytes ∥₁ → ShowsRow shown k row → is_some (piece_at (drop row.start bytes)) ≡ true
+item_stands bytes shown k row whole shows =
+    ∥∥₁_elim whole (Bool-set _ _) (λ w. ap is_some (stands_at shown bytes k (place_of_row (path_at shown k) row) w shows.place).0.read)
+
 pub name_value : (bytes : List ℕ) (shown : Shown) (k : ℕ) (row : Row) (scanned : Scanned) → ∥ IsShownOf shown bytes ∥₁ → ShowsRow shown k row → IsRead scanned.found
     → piece_at (drop row.start bytes) ≡ Some (piece_in bytes row.start scanned) → chars (written_name scanned.found) ≡ option_map_or name_of_node (node_at (document_of bytes) (path_at shown k)) []
 name_value bytes shown k row scanned whole shows read at = from_seen _ _ whole (λ w.

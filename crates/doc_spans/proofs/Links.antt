@@ -16,7 +16,8 @@ use Rattle.doc_spans.proofs.Each.{some_is}
 use Rattle.doc_spans.proofs.Marks.{within_self}
 use Rattle.doc_spans.proofs.Steps.{child_count}
 use Rattle.doc_spans.proofs.View.{get_front, get_last, get_inside, get_either, parents_more, parents_many, parents_next, parents_end, next_many, end_many, get_parent, drop_front, drop_one_more, siblings_split, under_get, paths_many}
-use Rattle.doc_spans.proofs.Builds.{Builds, Next, IsNothing, IsLeaf, IsStart, IsEnd, GoesOn, builds_nothing, builds_leaf, builds_start, builds_on, builds_end, new_row, rows_with, rows_parents, rows_length, current_is}
+use Rattle.doc_spans.proofs.Builds.{Builds, Next, IsNothing, IsLeaf, IsStart, builds_nothing, builds_leaf, builds_start, new_row, rows_with, rows_parents, rows_length, current_is}
+use Rattle.doc_spans.proofs.EndedRows.{IsEnd, GoesOn, builds_on, builds_end}
 
 -- the last child of the open element, if it has one
 abbrev pub LastChild : List ℕ → ℕ → ℕ → Type 0

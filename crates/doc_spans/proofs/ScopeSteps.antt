@@ -1,19 +1,14 @@
 -- The scope of declarations, over the tags of the elements that are open.
-use Rattle.std.proofs.Common.{◌≡◌, ℕ, zero, suc, ◌-◌, ◌<◌, Bool, true, false, ◌&&◌, List, [], ◌∷◌, ◌++◌, length, take, codes, cond, get_or, Option, Some, None, is_some, refl, sym, ◌∙◌, ap, arith}
-use Rattle.std.proofs.lemmas.Option.{none-some}
+use Rattle.std.proofs.Common.{◌≡◌, ℕ, Bool, true, false, ◌&&◌, List, [], ◌∷◌, codes, cond, Option, Some, None, is_some, refl, ◌∙◌, ap}
 use Rattle.std.proofs.lemmas.Str.{chars-nil, chars-IsAscii}
-use Rattle.std.specs.Prelude.{slice_get}
 use Rattle.std.specs.List.{list_all}
 use Rattle.std.specs.Str.{chars}
 use Rattle.document_model.specs.Characters.{is_empty, ◌is◌}
 use Rattle.document_model.specs.Items.{Attribute, value_of}
-use Rattle.document_model.specs.Scopes.{Tag, xml_space, xmlns_space, space_of, declared_prefix, declared_value, declared_space, value_or, is_declared, are_distinct, is_sound}
+use Rattle.document_model.specs.Scopes.{Tag, xml_space, xmlns_space, space_of, declared_prefix, declared_space, value_or, is_declared, are_distinct, is_sound}
 use Rattle.xml_items.specs.Found.{value_in, IsValueText}
 use Rattle.xml_items.proofs.AsciiTexts.{ascii_from}
-use Rattle.doc_spans.specs.declared.open_tags.OpenTag.{OpenTag}
-use Rattle.doc_spans.specs.OpenTags.{tag_in, tags_in}
 use Rattle.doc_spans.specs.ScopesIn.{bound_space, names_in, declares_soundly, names_soundly}
-use Rattle.doc_spans.proofs.Tags.{tags_push}
 
 pub default_prefix : (a : Attribute) → is_empty a.name.prefix ≡ true → (a.name.local is codes "xmlns") ≡ true → declared_prefix a ≡ Some []
 default_prefix a e f = rw (e, f) refl
@@ -43,30 +38,6 @@ empty_value = ap value_in chars-nil
 
 pub empty_text : IsValueText []
 empty_text = ap (λ cs. is_some (value_of cs)) chars-nil
-
--- Outward through the open elements.
-
-take_one : {A : Type 0} (xs : List A) (k : ℕ) (x : A) → slice_get xs k ≡ Some x → take (suc k) xs ≡ take k xs ++ x ∷ []
-take_one [] k x e = absurd (none-some x e)
-take_one (y ∷ xs) zero x e = let f : y ≡ x = cc in ap (λ z. z ∷ []) f
-take_one (y ∷ xs) (suc k) x e = ap (λ zs. y ∷ zs) (take_one xs k x e)
-
-pub outward : (prefix : List ℕ) (tags : List OpenTag) (left : ℕ) (tag : OpenTag) (attributes : List Attribute) (found : Option (List ℕ)) → 0 < left → slice_get tags (left - 1) ≡ Some tag
-    → attributes ≡ (tag_in tag).attributes → declared_value prefix attributes ≡ found
-    → declared_space prefix (tags_in (take left tags)) ≡ value_or found (declared_space prefix (tags_in (take (left - 1) tags)))
-outward prefix tags left tag attributes found some e f g =
-    let n : left ≡ suc (left - 1) = omega (arith, some) in
-    let items : take left tags ≡ take (left - 1) tags ++ tag ∷ [] = ap (λ k. take k tags) n ∙ take_one tags (left - 1) tag e in
-    ap (λ x. declared_space prefix (tags_in x)) items ∙ ap (declared_space prefix) (tags_push [] (take (left - 1) tags) tag)
-    ∙ ap (λ o. value_or o (declared_space prefix (tags_in (take (left - 1) tags)))) (ap (declared_value prefix) (sym f) ∙ g)
-
-pub outside_all : (prefix : List ℕ) (tags : List OpenTag) (left : ℕ) → left ≡ 0 → declared_space prefix (tags_in (take left tags)) ≡ []
-outside_all prefix tags left e = ap (λ k. declared_space prefix (tags_in (take k tags))) e
-
-pub get_here : (tags : List OpenTag) (k : ℕ) (tag : OpenTag) → k < length tags → tag ≡ get_or tags k tag → slice_get tags k ≡ Some tag
-get_here [] k tag h e = absurd (omega (arith, h))
-get_here (first ∷ tags) zero tag h e = let f : OpenTag → Option OpenTag = λ t. Some t in ap f (sym e)
-get_here (first ∷ tags) (suc k) tag h e = get_here tags k tag (omega (arith, h)) e
 
 pub xml_bound : (prefix : List ℕ) → (prefix is codes "xml") ≡ true → Some xml_space ≡ bound_space prefix
 xml_bound prefix e = rw e refl

@@ -1,54 +1,39 @@
 -- The tags of the elements that are open, as a stack.
-use Rattle.std.proofs.Common.{◌≡◌, ℕ, suc, ◌+◌, ◌-◌, Bool, true, false, not, ◌||◌, ◌==◌, cond, nat_eq, List, [], ◌∷◌, ◌++◌, length, drop, Option, Some, None, refl, sym, ◌∙◌, ap, arith}
+use Rattle.std.proofs.Common.{◌≡◌, ℕ, suc, ◌-◌, Bool, true, false, not, ◌||◌, ◌==◌, cond, nat_eq, List, [], ◌∷◌, length, Some, refl, sym, ◌∙◌, ap, arith}
 use Rattle.std.proofs.lemmas.Bool.{ne_eqb}
-use Rattle.std.proofs.lemmas.List.{append-nil}
 use Rattle.std.proofs.lemmas.Option.{none-some}
-use Rattle.std.specs.Prelude.{slice_get, option_to_list}
+use Rattle.std.specs.Prelude.{slice_get}
 use Rattle.document_model.specs.Characters.{is_empty, with_line_ends}
 use Rattle.document_model.specs.Items.{cdata}
 use Rattle.document_model.specs.Scopes.{Tag}
-use Rattle.doc_spans.specs.declared.open_tags.OpenTag.{OpenTag}
+use Rattle.doc_spans.specs.declared.opened.Opened.{Opened}
 use Rattle.doc_spans.specs.declared.rows.Shape.TheVariants.{EmptySection, Characters}
 use Rattle.doc_spans.specs.Marks.{shape_of}
-use Rattle.doc_spans.specs.OpenTags.{tag_in, tags_inside, tags_in}
+use Rattle.doc_spans.specs.Opened.{opened_tag, opened_in}
+use Rattle.doc_spans.specs.Stacked.{stacked}
+use Rattle.doc_spans.proofs.StackLists.{stacked_length}
 use Rattle.doc_spans.specs.Standing.{Standing, new_texts, text_after}
 
-tags_more : (outer : List Tag) (tags : List OpenTag) → length (tags_inside outer tags) ≡ length tags + length outer
-tags_more outer [] = omega arith
-tags_more outer (tag ∷ tags) = let n = tags_more (tag_in tag ∷ outer) tags in omega (arith, n)
-
-pub tags_length : (tags : List OpenTag) → length (tags_in tags) ≡ length tags
-tags_length tags = let n = tags_more [] tags in omega (arith, n)
+pub tags_length : (tags : List Opened) → length (opened_in tags) ≡ length tags
+tags_length tags = stacked_length opened_tag tags
 
 pub none_open : (tags : List Tag) → is_empty tags ≡ nat_eq (length tags) 0
 none_open [] = refl
 none_open (tag ∷ tags) = sym (ne_eqb (suc (length tags)) 0 (λ e. omega (arith, e)))
 
-pub tags_none : (tags : List OpenTag) → is_empty (tags_in tags) ≡ nat_eq (length tags) 0
-tags_none tags = none_open (tags_in tags) ∙ ap (λ n. nat_eq n 0) (tags_length tags)
-
-pub tags_push : (outer : List Tag) (tags : List OpenTag) (tag : OpenTag) → tags_inside outer (tags ++ tag ∷ []) ≡ tag_in tag ∷ tags_inside outer tags
-tags_push outer [] tag = refl
-tags_push outer (first ∷ tags) tag = tags_push (tag_in first ∷ outer) tags tag
-
-pub tags_pop : (tags left : List OpenTag) (last : Option OpenTag) → tags ≡ left ++ option_to_list last → (last ≡ None → length tags ≡ 0) → tags_in left ≡ drop 1 (tags_in tags)
-tags_pop tags left None e h = none_left tags (h refl) left (e ∙ append-nil left)
-  where
-    none_left : (tags : List OpenTag) → length tags ≡ 0 → (left : List OpenTag) → tags ≡ left → tags_in left ≡ drop 1 (tags_in tags)
-    none_left [] n left e = ap tags_in (sym e)
-    none_left (tag ∷ tags) n left e = absurd (omega (arith, n))
-tags_pop tags left (Some tag) e h = sym (ap (λ x. drop 1 (tags_in x)) e ∙ ap (drop 1) (tags_push [] left tag))
+pub tags_none : (tags : List Opened) → is_empty (opened_in tags) ≡ nat_eq (length tags) 0
+tags_none tags = none_open (opened_in tags) ∙ ap (λ n. nat_eq n 0) (tags_length tags)
 
 pub record Innermost (tags : List Tag) (tag : Tag) : Type 0 where
   pub outer : List Tag
   pub is : tags ≡ tag ∷ outer
 
-pub tags_last : (outer : List Tag) (tags : List OpenTag) (tag : OpenTag) → slice_get tags (length tags - 1) ≡ Some tag → Innermost (tags_inside outer tags) (tag_in tag)
+pub tags_last : (outer : List Tag) (tags : List Opened) (tag : Opened) → slice_get tags (length tags - 1) ≡ Some tag → Innermost (stacked opened_tag outer tags) (opened_tag tag)
 tags_last outer [] tag e = absurd (none-some tag e)
-tags_last outer (first ∷ []) tag e = let f : first ≡ tag = cc in record { outer = outer; is = ap (λ x. tag_in x ∷ outer) f }
+tags_last outer (first ∷ []) tag e = let f : first ≡ tag = cc in record { outer = outer; is = ap (λ x. opened_tag x ∷ outer) f }
 tags_last outer (first ∷ next ∷ tags) tag e =
     let n : suc (suc (length tags)) - 1 ≡ suc (suc (length tags) - 1) = omega arith in
-    tags_last (tag_in first ∷ outer) (next ∷ tags) tag (sym (ap (slice_get (first ∷ next ∷ tags)) n) ∙ e)
+    tags_last (opened_tag first ∷ outer) (next ∷ tags) tag (sym (ap (slice_get (first ∷ next ∷ tags)) n) ∙ e)
 
 -- a text without line ends isn't empty where the text wasn't
 

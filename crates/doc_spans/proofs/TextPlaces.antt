@@ -21,7 +21,8 @@ use Rattle.doc_spans.proofs.Spine.{path_of_last, none_behind}
 use Rattle.doc_spans.proofs.Stays.{head, stays}
 use Rattle.doc_spans.proofs.Steps.{children, child_count, ends_in_text, is_text, spine, text_is_last, deep, added_whole, added_comment, added_instruction, path_begun}
 use Rattle.doc_spans.proofs.Named.{named_begun, head_of, IsNode, paths_name, fresh, same_path, new_node}
-use Rattle.doc_spans.proofs.Builds.{IsNothing, GoesOn}
+use Rattle.doc_spans.proofs.Builds.{IsNothing}
+use Rattle.doc_spans.proofs.EndedRows.{GoesOn}
 use Rattle.doc_spans.proofs.Turn.{one, added_nothing, added_flat, is_nothing_declaration, is_nothing_outside, is_nothing_section, IsText, text_character, text_reference, text_section, goes_on_text, goes_on_section, leaf_text, ends}
 use Rattle.doc_spans.proofs.TextNodes.{keeps_text, grows_text, at_last_inside, beside_open}
 

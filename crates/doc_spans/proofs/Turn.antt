@@ -17,7 +17,8 @@ use Rattle.doc_spans.specs.Building.{State, step, with_end, parent_of}
 use Rattle.doc_spans.specs.View.{none}
 use Rattle.doc_spans.proofs.Spine.{inside, path_grown, path_of_last}
 use Rattle.doc_spans.proofs.Steps.{children, child_count, ends_in_text, is_text, spine, never, text_is_last, deep, added_whole, added_comment, added_instruction, path_begun, path_of_text, stays_in_text, more, closing, count_apart, behind, Behind, last_below, none_yet}
-use Rattle.doc_spans.proofs.Builds.{Builds, Next, IsNothing, IsLeaf, IsStart, IsEnd, GoesOn}
+use Rattle.doc_spans.proofs.Builds.{Builds, Next, IsNothing, IsLeaf, IsStart}
+use Rattle.doc_spans.proofs.EndedRows.{IsEnd, GoesOn}
 use Rattle.doc_spans.proofs.Links.{Built, built_nothing, built_leaf, built_start, built_on, built_end}
 
 abbrev pub one : List ℕ → Item → Piece

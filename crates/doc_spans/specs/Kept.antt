@@ -1,11 +1,11 @@
 -- What is kept of the items before a place, in the code.
 use Rattle.doc_spans.specs.declared.standing.Standing as code
 use Rattle.doc_spans.specs.Standing.{Standing}
-use Rattle.doc_spans.specs.OpenTags.{tags_in}
+use Rattle.doc_spans.specs.Scopes.{tags_around}
 
 abbrev pub standing_in : code.Standing → Standing
 standing_in s = record {
-  outer = tags_in s.open.items;
+  outer = tags_around s.open;
   begun = s.begun;
   first = s.first;
   front = s.front;

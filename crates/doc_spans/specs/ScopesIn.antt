@@ -6,11 +6,12 @@ use Rattle.document_model.specs.Names.{Expanded}
 use Rattle.document_model.specs.Items.{Attribute}
 use Rattle.document_model.specs.Scopes.{Tag, xml_space, xmlns_space, attribute_name, is_sound_declaration, is_declared, are_distinct}
 use Rattle.doc_spans.specs.declared.soundness.Scope.{Scope}
-use Rattle.doc_spans.specs.OpenTags.{tag_in, tags_in}
+use Rattle.doc_spans.specs.OpenTags.{tag_in}
+use Rattle.doc_spans.specs.Scopes.{tags_around}
 
 -- the tag itself, and the elements around it, the innermost first
 abbrev pub scope_in : Scope → List Tag
-scope_in scope = tag_in scope.tag ∷ tags_in scope.outer.now.items
+scope_in scope = tag_in scope.tag ∷ tags_around scope.outer.now
 
 -- the expanded names of attributes
 abbrev pub names_in : List Tag → List Attribute → List Expanded

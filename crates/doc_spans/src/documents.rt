@@ -20,7 +20,7 @@ use crate::rows::{Kind, NONE};
 use crate::texts::Pieces;
 use crate::trees::Tree;
 use xml_items::items::Found;
-use xml_items::scanner::next_item;
+use xml_items::scanner::{known_item, next_item};
 
 /// Names a node of a document by its number.
 #[derive(Clone, Copy, PartialEq, Eq, Debug)]
@@ -137,7 +137,7 @@ impl<'a> Doc<'a> {
         }
     }
 
-    /// Whether a node stands before another one in document order: a node stands before those below it, and before those behind it.
+    /// Whether a node stands before another one in document order (XPath 1.0, section 5): before those below it, and those behind it.
     pub fn is_before(self, a: NodeId, b: NodeId) -> bool
         requires first { Has self a }
         requires second { Has self b }
@@ -196,7 +196,7 @@ impl<'a> Doc<'a> {
     {
         let row = self.tree.row(node.0);
         match row.kind {
-            Kind::Element => match next_item(self.bytes, row.start as usize) {
+            Kind::Element => match known_item(self.bytes, row.start as usize) {
                 Some(scanned) => tag_found(scanned.found),
                 None => None,
             },

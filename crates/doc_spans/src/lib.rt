@@ -4,15 +4,18 @@
 mod attributes;
 mod building;
 mod child_nodes;
+pub mod declarations;
 mod documents;
 mod faults;
 mod open_tags;
+pub mod opened;
 mod parts;
 mod reading;
 mod readings;
 mod rows;
 pub mod scopes;
 mod soundness;
+pub mod stacks;
 mod standing;
 mod text_items;
 mod texts;

@@ -4,13 +4,11 @@ ghost use Rattle.std.specs.Prelude.{◌≡◌, not, option_map, codes, IfSome, i
 ghost use Rattle.std.specs.List.{list_all};
 ghost use Rattle.std.specs.Str.{chars};
 ghost use Rattle.document_model.specs.Characters.{is_empty, ◌is◌};
-ghost use Rattle.document_model.specs.Scopes.{xml_space, xmlns_space, declared_prefix, declares, declared_value, declared_space, space_of, may_bind, is_sound_declaration};
+ghost use Rattle.document_model.specs.Scopes.{xml_space, xmlns_space, declared_prefix, declares, declared_value, may_bind, is_sound_declaration};
 ghost use Rattle.xml_items.specs.Found.{value_in, IsValueText};
 ghost use Rattle.xml_items.specs.Attributes.{attribute_in, attributes_left};
-ghost use Rattle.doc_spans.specs.OpenTags.{tag_in, tags_in};
 ghost use Rattle.doc_spans.specs.ScopesIn.{bound_space};
 
-use crate::open_tags::OpenTag;
 use xml_items::attribute_walk::{Attribute, Attributes};
 use xml_items::texts::{is, is_empty, same};
 use xml_items::value_texts::{is_empty_value, same_values, value_fits};
@@ -143,20 +141,4 @@ pub fn declared_value<'a>(prefix: &str, attributes: Attributes<'a>) -> Option<&'
             None => return None,
         }
     }
-}
-
-// The value of a prefix inside elements that are open; the text of an empty value where none declares it.
-pub(crate) fn declared_space<'a>(prefix: &str, outer: &Vec<OpenTag<'a>>) -> &'a str
-    ensures value { value_in (chars result.now) ≡ declared_space (chars prefix.now) (tags_in outer.now.items) }
-    ensures read { IsValueText result.now }
-{
-    let mut left = outer.len();
-    'tags: while left > 0 {
-        left -= 1;
-        let tag = outer[left];
-        if let Some(value) = declared_value(prefix, Attributes::of(tag.attributes)) {
-            return value;
-        }
-    }
-    ""
 }

@@ -9,8 +9,10 @@ ghost use Rattle.document_model.specs.Scopes.{declared_space, space_of, is_decla
 ghost use Rattle.xml_items.specs.Found.{value_in, IsValueText};
 ghost use Rattle.xml_items.specs.Attributes.{attribute_in, attributes_left};
 
+use crate::declarations::Declared;
 use crate::open_tags::OpenTag;
-use crate::scopes::{are_sound_declarations, bound_space, declared_space, declared_value};
+use crate::scopes::{are_sound_declarations, bound_space, declared_value};
+use crate::stacks::Scopes;
 use xml_items::attribute_walk::{Attribute, Attributes};
 use xml_items::names::name_parts;
 use xml_items::texts::{is, is_empty, same};
@@ -19,12 +21,13 @@ use xml_items::value_texts::{is_empty_value, same_values};
 // A tag, whose declarations are in scope for its own names, and the elements around it.
 #[derive(Clone, Copy)]
 pub(crate) struct Scope<'s, 'a> {
-    pub(crate) outer: &'s Vec<OpenTag<'a>>,
+    pub(crate) outer: &'s Scopes<'a>,
     pub(crate) tag: OpenTag<'a>,
 }
 
 impl<'s, 'a> Scope<'s, 'a> {
-    ghost use Rattle.doc_spans.specs.OpenTags.{tag_in, tags_in};
+    ghost use Rattle.doc_spans.specs.OpenTags.{tag_in};
+    ghost use Rattle.doc_spans.specs.Scopes.{tags_around};
     ghost use Rattle.doc_spans.specs.ScopesIn.{scope_in, names_in, declares_soundly, names_soundly};
 
     // The value of a prefix by the declarations; the text of an empty value where there is none.
@@ -34,8 +37,19 @@ impl<'s, 'a> Scope<'s, 'a> {
     {
         match declared_value(prefix, Attributes::of(self.tag.attributes)) {
             Some(value) => value,
-            None => declared_space(prefix, self.outer),
+            None => self.declared_outside(prefix),
         }
+    }
+
+    // The same by the declarations of the elements around the tag.
+    fn declared_outside(&self, prefix: &str) -> &'a str
+        ensures value { value_in (chars result.now) ≡ declared_space (chars prefix.now) (tags_around self.now.outer.now) }
+        ensures read { IsValueText result.now }
+    {
+        let outer = Declared {
+            items: self.outer.declarations.as_slice(),
+        };
+        outer.value_or_none(prefix)
     }
 
     // The value of a prefix.
@@ -134,7 +148,7 @@ impl<'s, 'a> Scope<'s, 'a> {
 
     // Whether the declarations of the tag are sound, and its own name: "Reserved Prefixes and Namespace Names", "No Prefix Undeclaring".
     fn has_sound_declarations(&self) -> bool
-        ensures { result ≡ declares_soundly (tags_in self.now.outer.now.items) (tag_in self.now.tag) }
+        ensures { result ≡ declares_soundly (tags_around self.now.outer.now) (tag_in self.now.tag) }
     {
         let (prefix, _) = name_parts(self.tag.name);
         are_sound_declarations(Attributes::of(self.tag.attributes))
@@ -144,7 +158,7 @@ impl<'s, 'a> Scope<'s, 'a> {
 
     // Whether the names of its attributes are: "Prefix Declared", "Attributes Unique".
     fn has_sound_attributes(&self) -> bool
-        ensures { result ≡ names_soundly (tags_in self.now.outer.now.items) (tag_in self.now.tag) }
+        ensures { result ≡ names_soundly (tags_around self.now.outer.now) (tag_in self.now.tag) }
     {
         let attributes = Attributes::of(self.tag.attributes);
         self.are_declared(attributes) && self.are_distinct(attributes)
@@ -152,7 +166,7 @@ impl<'s, 'a> Scope<'s, 'a> {
 
     // Whether the tag's names and declarations are sound: Namespaces in XML 1.0.
     pub(crate) fn is_sound(&self) -> bool
-        ensures { result ≡ is_sound (tags_in self.now.outer.now.items) (tag_in self.now.tag) }
+        ensures { result ≡ is_sound (tags_around self.now.outer.now) (tag_in self.now.tag) }
     {
         self.has_sound_declarations() && self.has_sound_attributes()
     }

@@ -4,7 +4,8 @@ ghost use Rattle.std.specs.Prelude.{◌≡◌, ◌+◌, ◌≤◌, ◌||◌, [],
 ghost use Rattle.document_model.specs.Characters.{is_empty, with_line_ends};
 ghost use Rattle.std.specs.Str.{chars};
 ghost use Rattle.doc_spans.specs.Standing.{standing_of, goes_on, may_stand, may_stand_as_text, may_open, is_deep, new_texts, nodes_added, is_one_too_many, is_complete, after, outer_after, begins_element, is_the_character, text_after};
-ghost use Rattle.doc_spans.specs.OpenTags.{tag_in, tags_in};
+ghost use Rattle.doc_spans.specs.OpenTags.{tag_in};
+ghost use Rattle.doc_spans.specs.Scopes.{tags_around};
 ghost use Rattle.document_model.specs.Items.{cdata};
 ghost use Rattle.document_model.specs.Documents.{closes, limits};
 ghost use Rattle.xml_items.specs.Found.{name_in, IsNameText};
@@ -12,6 +13,7 @@ ghost use Rattle.xml_items.specs.Items.{item_in, IsRead};
 
 use crate::open_tags::OpenTag;
 use crate::soundness::Scope;
+use crate::stacks::Scopes;
 use std::alloc::{AllocError, Global};
 use xml_items::items::Found;
 use xml_items::names::same_name;
@@ -24,10 +26,13 @@ const MOST_DEPTH: usize = 256;
 // The most nodes of a document, attributes and declarations among them.
 const MOST_NODES: u32 = 1_048_576;
 
+// The most nodes that one item adds: an element with as many attributes as one may have.
+const MOST_ADDED: u32 = 257;
+
 // What the items so far say.
 #[derive(Drop)]
 pub(crate) struct Standing<'a> {
-    pub(crate) open: Vec<OpenTag<'a>>,
+    pub(crate) open: Scopes<'a>,
     pub(crate) begun: bool,
     pub(crate) first: bool,
     pub(crate) front: bool,
@@ -45,7 +50,7 @@ impl<'a> Standing<'a> {
         ensures { standing_in result ≡ standing_of [] }
     {
         Standing {
-            open: Vec::new(alloc),
+            open: Scopes::new(alloc),
             begun: false,
             first: true,
             front: true,
@@ -65,16 +70,16 @@ impl<'a> Standing<'a> {
 
     // How many elements are open.
     fn depth(&self) -> usize
-        ensures { result ≡ length (tags_in self.now.open.items) }
+        ensures { result ≡ length (tags_around self.now.open) }
     {
-        self.open.len()
+        self.open.tags.len()
     }
 
     // Whether no element is open.
     fn is_outside(&self) -> bool
-        ensures { result ≡ is_empty (tags_in self.now.open.items) }
+        ensures { result ≡ is_empty (tags_around self.now.open) }
     {
-        self.open.is_empty()
+        self.open.tags.is_empty()
     }
 
     // Whether a text goes on in an element, behind a character that no rule looks back to.
@@ -155,7 +160,7 @@ impl<'a> Standing<'a> {
 
     // One, where a text begins with a character that stands here.
     fn texts_added(&self) -> u32
-        ensures count { result ≡ (if is_empty (tags_in self.now.open.items) || self.now.in_text then 0 else 1) }
+        ensures count { result ≡ (if is_empty (tags_around self.now.open) || self.now.in_text then 0 else 1) }
         ensures bound { result ≤ 1 }
     {
         if self.is_outside() || self.in_text {
@@ -183,7 +188,7 @@ impl<'a> Standing<'a> {
         requires few { self.now.nodes ≤ limits.nodes }
         ensures { result ≡ is_one_too_many (standing_in self.now) (item_in found.entry) }
     {
-        self.nodes_added(found) + self.nodes > MOST_NODES
+        self.nodes > MOST_NODES - MOST_ADDED && self.nodes_added(found) + self.nodes > MOST_NODES
     }
 
     // Takes one more item.
@@ -207,42 +212,32 @@ impl<'a> Standing<'a> {
 }
 
 // Whether an end tag of this name closes the innermost of elements that are open.
-fn closes(name: &str, tags: &Vec<OpenTag>) -> bool
+fn closes(name: &str, elements: &Scopes<'_>) -> bool
     requires { IsNameText name.now }
-    ensures { result ≡ closes (name_in (chars name.now)) (tags_in tags.now.items) }
+    ensures { result ≡ closes (name_in (chars name.now)) (tags_around elements.now) }
 {
-    match tags.last() {
-        Some(tag) => same_name(name, tag.name),
+    match elements.tags.last() {
+        Some(opened) => same_name(name, opened.tag.name),
         None => false,
     }
 }
 
 // The elements that are open after one more item.
-fn enter_element<'a>(tags: &mut Vec<OpenTag<'a>>, found: Found<'a>) -> Result<(), AllocError>
+fn enter_element<'a>(elements: &mut Scopes<'a>, found: Found<'a>) -> Result<(), AllocError>
     requires { IsRead found }
-    ensures { IfOk result (λ _. tags_in tags.new.items ≡ outer_after (item_in found.entry) (tags_in tags.old.items)) }
+    ensures { IfOk result (λ _. tags_around elements.new ≡ outer_after (item_in found.entry) (tags_around elements.old)) }
 {
     match found {
-        Found::StartTag(name, attributes) => open_element(tags, OpenTag { name, attributes }),
+        Found::StartTag(name, attributes) => {
+            elements.push(OpenTag { name, attributes })?;
+            Ok(())
+        }
         Found::EndTag(_) => {
-            close_element(tags);
+            elements.pop();
             Ok(())
         }
         _ => Ok(()),
     }
-}
-
-fn open_element<'a>(tags: &mut Vec<OpenTag<'a>>, tag: OpenTag<'a>) -> Result<(), AllocError>
-    ensures { IfOk result (λ _. tags_in tags.new.items ≡ tag_in tag.entry ∷ tags_in tags.old.items) }
-{
-    tags.push(tag)?;
-    Ok(())
-}
-
-fn close_element(tags: &mut Vec<OpenTag>)
-    ensures { tags_in tags.new.items ≡ drop 1 (tags_in tags.old.items) }
-{
-    tags.pop();
 }
 
 fn begins_element(found: Found) -> bool

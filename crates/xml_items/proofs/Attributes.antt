@@ -14,6 +14,30 @@ pub pair_whole : (t space t1 name t2 w2 t3 t4 w4 t5 t6 inside t7 t8 : List ℕ) 
     → pair_at t ≡ when (not (is_empty space)) (record { name = name; text = inside }, t8)
 pair_whole t space t1 name t2 w2 t3 t4 w4 t5 t6 inside t7 t8 equals quote end a b c d e f g h = rw (a, b, c, d, e, f, g, h) refl
 
+-- no white space stands before it
+pub pair_unspaced : (t space t1 : List ℕ) → span is_white t ≡ (space, t1) → is_empty space ≡ true → pair_at t ≡ None
+pair_unspaced t space t1 a e = rw (a, e) (one (behind_one (λ c. c == 0x3D) (span is_white name.1).1))
+  where
+    name : List ℕ × List ℕ
+    name = span (λ c. continues_name c || (c == 0x3A)) t1
+
+    three : (quote equals : ℕ × List ℕ) (o : Option (ℕ × List ℕ))
+        → option_and_then {U = Pair × List ℕ} (λ end. when false (record { name = name.0; text = (span (λ c. not (c == quote.0)) quote.1).0 }, end.1)) o ≡ None
+    three quote equals None = refl
+    three quote equals (Some x) = refl
+
+    two : (equals : ℕ × List ℕ) (o : Option (ℕ × List ℕ))
+        → option_and_then {U = Pair × List ℕ} (λ quote. let inside = span (λ c. not (c == quote.0)) quote.1 in
+        option_and_then {U = Pair × List ℕ} (λ end. when false (record { name = name.0; text = inside.0 }, end.1)) (behind_one (λ c. c == quote.0) inside.1)) o ≡ None
+    two equals None = refl
+    two equals (Some quote) = three quote equals (behind_one (λ c. c == quote.0) (span (λ c. not (c == quote.0)) quote.1).1)
+
+    one : (o : Option (ℕ × List ℕ))
+        → option_and_then {U = Pair × List ℕ} (λ equals. option_and_then {U = Pair × List ℕ} (λ quote. let inside = span (λ c. not (c == quote.0)) quote.1 in
+        option_and_then {U = Pair × List ℕ} (λ end. when false (record { name = name.0; text = inside.0 }, end.1)) (behind_one (λ c. c == quote.0) inside.1)) (behind_one is_quote (span is_white equals.1).1)) o ≡ None
+    one None = refl
+    one (Some equals) = two equals (behind_one is_quote (span is_white equals.1).1)
+
 -- one more attribute
 
 pub attributes_none : (n c : ℕ) (cs : List ℕ) → pair_at (c ∷ cs) ≡ None → is_some (read_attributes n (c ∷ cs)) ≡ false

@@ -1,13 +1,14 @@
 -- A walk over a text, character by character.
-use Rattle.std.proofs.Common.{◌≡◌, ℕ, ◌-◌, Bool, true, false, List, [], ◌∷◌, ◌++◌, length, take, drop, refl, sym, ap, ◌∙◌, subst, append_assoc, arith, length-append}
+use Rattle.std.proofs.Common.{◌≡◌, ℕ, ◌+◌, ◌-◌, ◌<◌, Bool, true, false, List, [], ◌∷◌, ◌++◌, length, take, drop, get_or, refl, sym, ap, ◌∙◌, subst, append_assoc, arith, length-append}
 use Rattle.std.specs.Str.{IsUtf8, chars, IsCharBoundary}
 use Rattle.std.specs.Char.{encode_utf8}
 use Rattle.std.proofs.Math.Seq.{take-append_seam, drop-append_seam}
 use Rattle.std.proofs.lemmas.Bool.{and_parts, and_from}
-use Rattle.std.proofs.lemmas.List.{append-nil}
-use Rattle.std.proofs.lemmas.Str.{chars-nil, chars-append, chars_past_char, scalars-chars, IsUtf8-append, IsUtf8-nil, IsCharBoundary-at_seam}
+use Rattle.std.proofs.lemmas.List.{append-nil, drop_more}
+use Rattle.std.proofs.lemmas.Str.{chars-nil, chars-append, chars_past_char, scalars-chars, IsUtf8-append, IsUtf8-nil, IsCharBoundary-at_seam, encode_ascii}
 use lib.Utf8.{scalars}
 use Rattle.document_model.specs.Characters.{span}
+use Rattle.xml_items.proofs.AsciiTexts.{utf8_behind}
 
 -- a character at the front of a text is text
 pub first_utf8 : (rest next : List ℕ) (c : ℕ) → IsUtf8 rest → rest ≡ encode_utf8 c ++ next → IsUtf8 (encode_utf8 c)
@@ -42,6 +43,17 @@ passed_more p text rest next c w u e h =
       passed = w.passed ∙ ap (λ x. (chars w.front ++ (span p x).0, (span p x).1)) r ∙ ap (λ x. (chars w.front ++ x.0, x.1)) step
           ∙ ap (λ x. (x, (span p (chars next)).1)) (sym (append_assoc (chars w.front) (c ∷ []) (span p (chars next)).0) ∙ ap (λ x. x ++ (span p (chars next)).0) (sym f));
     }
+
+-- the same of one byte, which is an ASCII character
+pub passed_byte : (p : ℕ → Bool) (text : List ℕ) (at : ℕ) → at < length text → get_or text at 0 < 128 → p (get_or text at 0) ≡ true → Passed p text (drop at text) → IsUtf8 (drop at text)
+    → Passed p text (drop (at + 1) text) × IsUtf8 (drop (at + 1) text)
+passed_byte p text at within ascii h w u =
+    let x = get_or text at 0 in
+    let next = drop (at + 1) text in
+    let e : drop at text ≡ encode_utf8 x ++ next = drop_more text at 0 within ∙ ap (λ xs. xs ++ next) (sym (encode_ascii x ascii)) in (
+      passed_more p text (drop at text) next x w u e h,
+      utf8_behind (encode_utf8 x) next (subst IsUtf8 e u) (first_utf8 (drop at text) next x u e),
+    )
 
 -- the run ends at rest: nothing is left, or a character that doesn't pass
 pub stops_at_end : (p : ℕ → Bool) (rest : List ℕ) → length rest ≡ 0 → span p (chars rest) ≡ ([], chars rest)

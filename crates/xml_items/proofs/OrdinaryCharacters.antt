@@ -88,7 +88,7 @@ ordinary_is b e = record {
   no_return = apart b 0xD e refl;
 }
 
-no_start : (b : ℕ) (behind close : List ℕ) (c : ℕ) → nat_eq b c ≡ false → starts_with nat_eq (b ∷ behind) (c ∷ close) ≡ false
+pub no_start : (b : ℕ) (behind close : List ℕ) (c : ℕ) → nat_eq b c ≡ false → starts_with nat_eq (b ∷ behind) (c ∷ close) ≡ false
 no_start b behind close c e = ap (λ t. t && starts_with nat_eq behind close) (same_test c b ∙ e)
 
 abbrev by_tests : Bool → Bool → Bool → Bool → Bool → Bool → Kind

@@ -6,17 +6,17 @@ use Rattle.std.proofs.lemmas.Str.{chars-nil}
 use Rattle.document_model.specs.Characters.{characters}
 use Rattle.document_model.specs.Items.{Item, Kind, CommentKind, CdataKind, InstructionKind, EndTagKind, TagKind, ReferenceKind, CharacterKind, Piece, kind_at, cut, item_of, piece_at}
 
-abbrev with_item : List ℕ × List ℕ → Option Item → Option (Piece × List ℕ)
+abbrev pub with_item : List ℕ × List ℕ → Option Item → Option (Piece × List ℕ)
 with_item parts found = option_and_then (λ item. Some (record { text = parts.0; item = item }, parts.1)) found
 
-abbrev with_parts : Kind → List ℕ × List ℕ → Option (Piece × List ℕ)
+abbrev pub with_parts : Kind → List ℕ × List ℕ → Option (Piece × List ℕ)
 with_parts kind parts = option_and_then (λ text. with_item parts (item_of kind text)) (characters parts.0)
 
 piece_by : (rest : List ℕ) → piece_at rest ≡ with_parts (kind_at rest) (cut (kind_at rest) rest)
 unfolding piece_at
 piece_by rest = refl
 
-piece_cut : (rest : List ℕ) (kind : Kind) (n : ℕ) → kind ≡ kind_at rest → cut kind rest ≡ (take n rest, drop n rest) → piece_at rest ≡ with_parts kind (take n rest, drop n rest)
+pub piece_cut : (rest : List ℕ) (kind : Kind) (n : ℕ) → kind ≡ kind_at rest → cut kind rest ≡ (take n rest, drop n rest) → piece_at rest ≡ with_parts kind (take n rest, drop n rest)
 piece_cut rest kind n k e = piece_by rest ∙ ap (λ x. with_parts x (cut x rest)) (sym k) ∙ ap (with_parts kind) e
 
 pub no_piece : (rest : List ℕ) (kind : Kind) (n : ℕ) → kind ≡ kind_at rest → cut kind rest ≡ (take n rest, drop n rest) → characters (take n rest) ≡ None → piece_at rest ≡ None

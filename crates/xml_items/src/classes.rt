@@ -81,7 +81,7 @@ fn continues_name(n: u32) -> bool
         || matches!(n, 0x2D..=0x2E | 0x30..=0x39 | 0xB7 | 0x300..=0x36F | 0x203F..=0x2040)
 }
 
-// The longest front of characters of the class, and what is behind it.
+// The longest front of characters of the class, and what is behind it. Most of them are ASCII.
 #[inline(always)]
 pub fn front<'a>(text: &'a str, class: Class) -> (&'a str, &'a str)
     ensures split { span (passes class) (chars text.now) ≡ (chars result.0.now, chars result.1.now) }
@@ -89,7 +89,13 @@ pub fn front<'a>(text: &'a str, class: Class) -> (&'a str, &'a str)
     ensures front_utf8 { IsUtf8 result.0.now }
     ensures behind_utf8 { IsUtf8 result.1.now }
 {
-    let mut rest = text.chars();
+    let bytes = text.as_bytes();
+    let mut at = 0;
+    'bytes: while at < bytes.len() && bytes[at] < 0x80 && has(class, bytes[at] as char) {
+        at += 1;
+    }
+    let (_, further) = text.split_at(at);
+    let mut rest = further.chars();
     loop {
         let behind = rest.as_str();
         match rest.next() {

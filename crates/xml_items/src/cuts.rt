@@ -1,7 +1,7 @@
 // Where an item ends.
-ghost use Rattle.std.specs.Prelude.{◌≡◌, ◌≤◌, length, take, drop};
+ghost use Rattle.std.specs.Prelude.{◌≡◌, ◌≤◌, ◌-◌, ◌++◌, length, take, drop};
 ghost use Rattle.document_model.specs.Items.{through, through_after, through_tag, kind_at, cut};
-ghost use Rattle.std.specs.Prelude.{None};
+ghost use Rattle.std.specs.Prelude.{None, Some};
 ghost use Rattle.xml_items.specs.Kinds.{kind_of};
 
 #[derive(Clone, Copy)]
@@ -55,16 +55,36 @@ fn through_tag(bytes: &[u8]) -> usize
     ensures bound { result ≤ length bytes.now }
     ensures cut { through_tag None bytes.now ≡ (take result bytes.now, drop result bytes.now) }
 {
-    let mut quote = None;
-    for (at, byte) in bytes.iter().enumerate() {
-        quote = match quote {
-            None if *byte == b'>' => return at + 1,
-            None if *byte == b'"' || *byte == b'\'' => Some(*byte),
-            Some(open) if open == *byte => None,
-            _ => quote,
-        };
+    let mut at = 0;
+    'bytes: while at < bytes.len() {
+        let byte = bytes[at];
+        at += 1;
+        if byte == b'>' {
+            return at;
+        }
+        if byte == b'"' || byte == b'\'' {
+            at = behind_quote(bytes, at, byte);
+        }
     }
     bytes.len()
+}
+
+// The place behind the next quote of this kind from a place on, or that behind all bytes.
+fn behind_quote(bytes: &[u8], start: usize, quote: u8) -> usize
+    requires { start ≤ length bytes.now }
+    ensures order { start ≤ result }
+    ensures bound { result ≤ length bytes.now }
+    ensures cut { through_tag (Some quote) (drop start bytes.now) ≡ (take (result - start) (drop start bytes.now) ++ (through_tag None (drop result bytes.now)).0, (through_tag None (drop result bytes.now)).1) }
+{
+    let mut at = start;
+    'quoted: while at < bytes.len() {
+        let byte = bytes[at];
+        at += 1;
+        if byte == quote {
+            return at;
+        }
+    }
+    at
 }
 
 // How many bytes the first character has; CR LF is one.

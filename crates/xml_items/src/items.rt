@@ -1,5 +1,5 @@
 // The item that a whole text is, kind by kind.
-ghost use Rattle.std.specs.Prelude.{◌≡◌, ◌∷◌, [], option_map, option_and_then, is_some, codes, IfSome, ℕ, List, ◌++◌, ◌+◌, length};
+ghost use Rattle.std.specs.Prelude.{◌≡◌, ◌∷◌, [], option_map, option_and_then, is_some, codes, IfSome, IsTrue, Some, ℕ, List, ◌++◌, ◌+◌, length};
 ghost use Rattle.std.specs.Str.{chars};
 ghost use Rattle.document_model.specs.Characters.{between, with_line_ends};
 ghost use Rattle.document_model.specs.Items.{item_of, character_of, comment, cdata, character, end_tag, reference, instruction, instruction_of, declaration_of, tag_of, start_tag, empty_tag, CommentKind, CdataKind, InstructionKind, EndTagKind, TagKind, ReferenceKind, CharacterKind};
@@ -209,6 +209,24 @@ fn start_tag<'a>(text: &'a str) -> Option<(&'a str, &'a str)>
 {
     match between(text, "<", ">") {
         Some(inside) => tag(inside),
+        None => None,
+    }
+}
+
+// The name and the attributes of a start tag, where a tag is known to stand. None of an empty tag.
+pub fn known_start_tag<'a>(text: &'a str) -> Option<(&'a str, &'a str)>
+    requires { IsTrue (is_some (item_of TagKind (chars text.now))) }
+    ensures item { IfSome result (λ r. item_of TagKind (chars text.now) ≡ Some (start_tag (name_in (chars r.0.now)) (attributes_in (chars r.1.now)))) }
+    ensures read { IfSome result (λ r. IsNameText r.0.now × AreAttributesText r.1.now) }
+{
+    if between(text, "<", "/>").is_some() {
+        return None;
+    }
+    match between(text, "<", ">") {
+        Some(inside) => {
+            let (name, attributes) = front(without_space_behind(inside), Class::NamePartOrColon);
+            Some((name, attributes))
+        }
         None => None,
     }
 }

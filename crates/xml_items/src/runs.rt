@@ -1,5 +1,6 @@
 // Runs of characters that stand for themselves.
 ghost use Rattle.std.specs.Prelude.{◌≡◌, ◌≤◌, ◌+◌, length, drop};
+ghost use Rattle.std.specs.List.{list_all};
 ghost use Rattle.document_model.specs.Characters.{span};
 ghost use Rattle.xml_items.specs.Runs.{is_ordinary};
 
@@ -21,4 +22,11 @@ pub fn ordinary_run(bytes: &[u8], at: usize) -> usize
         end += 1;
     }
     end - at
+}
+
+/// Whether all bytes are such characters.
+pub fn are_ordinary(bytes: &[u8]) -> bool
+    ensures { result ≡ list_all is_ordinary bytes.now }
+{
+    bytes.iter().all(|byte| is_ordinary(*byte))
 }

@@ -1,12 +1,12 @@
 // One item at the front of bytes.
-ghost use Rattle.std.specs.Prelude.{◌≡◌, ◌-◌, take, ◌<◌, ◌≤◌, IfSome, drop, length, option_map};
+ghost use Rattle.std.specs.Prelude.{◌≡◌, ◌-◌, take, ◌<◌, ◌≤◌, IfSome, IsTrue, Some, drop, length, is_some, option_map};
 ghost use Rattle.document_model.specs.Items.{piece_at};
 ghost use Rattle.xml_items.specs.Scanned.{piece_in};
 ghost use Rattle.xml_items.specs.Items.{IsRead};
 ghost use Rattle.xml_items.specs.Spans.{IsPlaced};
 
-use crate::cuts::{cut, kind_at};
-use crate::items::{Found, item_of};
+use crate::cuts::{Kind, cut, kind_at};
+use crate::items::{Found, item_of, known_start_tag};
 use crate::texts::characters;
 
 // An item, and where it ends.
@@ -36,5 +36,44 @@ pub fn next_item<'a>(bytes: &'a [u8], at: usize) -> Option<Scanned<'a>>
             None => None,
         },
         None => None,
+    }
+}
+
+// The item that begins at a place where one is known to stand: a start tag isn't tested again.
+pub fn known_item<'a>(bytes: &'a [u8], at: usize) -> Option<Scanned<'a>>
+    requires at { at ≤ length bytes.now }
+    requires stands { IsTrue (is_some (piece_at (drop at bytes.now))) }
+    ensures item { piece_at (drop at bytes.now) ≡ option_map (piece_in bytes.now at) result }
+    ensures read { IfSome result (λ scanned. IsRead scanned.found) }
+{
+    match known_start(bytes, at) {
+        Some(scanned) => Some(scanned),
+        None => next_item(bytes, at),
+    }
+}
+
+// The start tag that begins there, where it is one.
+fn known_start<'a>(bytes: &'a [u8], at: usize) -> Option<Scanned<'a>>
+    requires at { at ≤ length bytes.now }
+    requires stands { IsTrue (is_some (piece_at (drop at bytes.now))) }
+    ensures item { IfSome result (λ scanned. piece_at (drop at bytes.now) ≡ Some (piece_in bytes.now at scanned)) }
+    ensures read { IfSome result (λ scanned. IsRead scanned.found) }
+{
+    let rest = &bytes[at..];
+    match kind_at(rest) {
+        Kind::Tag => {
+            let len = cut(Kind::Tag, rest);
+            match str::from_utf8(&rest[..len]) {
+                Ok(text) => match known_start_tag(text) {
+                    Some((name, attributes)) => Some(Scanned {
+                        found: Found::StartTag(name, attributes),
+                        end: at + len,
+                    }),
+                    None => None,
+                },
+                Err(_) => None,
+            }
+        }
+        _ => None,
     }
 }

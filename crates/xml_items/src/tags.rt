@@ -10,6 +10,7 @@ ghost use Rattle.xml_items.specs.Pairs.{pair_in};
 use crate::classes::{Class, behind_one, first, front};
 use crate::names::is_name;
 use crate::references::referred;
+use crate::runs::are_ordinary;
 use crate::texts::{contains, without_space_behind};
 
 // A name, and the text that stands in quotes behind it.
@@ -25,6 +26,9 @@ pub fn pair_at<'a>(text: &'a str) -> Option<(Pair<'a>, &'a str)>
     ensures utf8 { IfSome result (λ r. IsUtf8 r.1.now) }
 {
     let (space, rest) = front(text, Class::White);
+    if space.is_empty() {
+        return None;
+    }
     let (name, rest) = front(rest, Class::NamePartOrColon);
     let (_, rest) = front(rest, Class::White);
     let (_, rest) = behind_one(rest, Class::Only('='))?;
@@ -32,9 +36,6 @@ pub fn pair_at<'a>(text: &'a str) -> Option<(Pair<'a>, &'a str)>
     let (quote, rest) = behind_one(rest, Class::Quote)?;
     let (text, rest) = front(rest, Class::Except(quote));
     let (_, rest) = behind_one(rest, Class::Only(quote))?;
-    if space.is_empty() {
-        return None;
-    }
     Some((Pair { name, text }, rest))
 }
 
@@ -42,7 +43,7 @@ pub fn pair_at<'a>(text: &'a str) -> Option<(Pair<'a>, &'a str)>
 pub fn is_value(text: &str) -> bool
     ensures { result ≡ is_some (value_of (chars text.now)) }
 {
-    !contains(text, "<") && are_references(text)
+    are_ordinary(text.as_bytes()) || (!contains(text, "<") && are_references(text))
 }
 
 // Whether each `&` of a text begins a reference.

@@ -2,9 +2,9 @@
 ghost use Rattle.std.specs.Prelude.{false, ◌≡◌, ◌++◌, ◌<◌, nat_eq, nat_lt, Some, None, MatchOption, IsTrue, option_map, map, length, IfSome, ℕ, List};
 ghost use Rattle.std.specs.List.{list_all, starts_with, ends_with};
 ghost use Rattle.std.specs.Str.{chars, str_to_ascii_lowercase};
-ghost use Rattle.document_model.specs.Characters.{characters, between, contains, is_empty, ◌is◌};
+ghost use Rattle.document_model.specs.Characters.{characters, is_char, between, contains, is_empty, ◌is◌};
 ghost use Rattle.document_model.specs.Items.{without_space_behind, lower_case};
-ghost use Rattle.xml_items.specs.Texts.{is_ascii, HasEnd};
+ghost use Rattle.xml_items.specs.Texts.{is_ascii, is_plain, HasEnd};
 
 use crate::classes::{Class, all, has};
 
@@ -14,7 +14,7 @@ pub fn characters(bytes: &[u8]) -> Option<&str>
 {
     match str::from_utf8(bytes) {
         Ok(text) => {
-            if all(text, Class::Char) {
+            if are_characters(text) {
                 Some(text)
             } else {
                 None
@@ -22,6 +22,26 @@ pub fn characters(bytes: &[u8]) -> Option<&str>
         }
         Err(_) => None,
     }
+}
+
+// Whether all characters may stand in a document.
+fn are_characters(text: &str) -> bool
+    ensures { result ≡ list_all is_char (chars text.now) }
+{
+    are_plain(text.as_bytes()) || all(text, Class::Char)
+}
+
+// Whether all bytes are ASCII characters that may: most texts are made of these alone.
+fn are_plain(bytes: &[u8]) -> bool
+    ensures { result ≡ list_all is_plain bytes.now }
+{
+    bytes.iter().all(|byte| is_plain(*byte))
+}
+
+fn is_plain(byte: u8) -> bool
+    ensures { result ≡ is_plain byte }
+{
+    matches!(byte, 0x9..=0xA | 0xD | 0x20..=0x7E)
 }
 
 fn starts(text: &str, opening: &str) -> bool

@@ -9,6 +9,7 @@ ghost use Rattle.xml_items.specs.Values.{Begins};
 
 use crate::classes::{Class, first, front, has};
 use crate::references::referred;
+use crate::texts::same;
 
 // The first character of a value, and the text of what is behind it.
 pub fn first_of_value(text: &str) -> Option<(u32, &str)>
@@ -70,6 +71,9 @@ pub fn same_values(a: &str, b: &str) -> bool
     requires second { IsValueText b.now }
     ensures { result ≡ (value_in (chars a.now) is value_in (chars b.now)) }
 {
+    if same(a, b) {
+        return true;
+    }
     let mut x = a;
     let mut y = b;
     'characters: loop {

@@ -1,8 +1,8 @@
 use Rattle.std.proofs.Common.{[], ◌∙◌, sym, ap, cond}
 use Rattle.std.specs.Str.{chars}
 use Rattle.doc_spans.proofs.ScopeSteps.{empty_value, empty_text}
-use Rattle.canon_tags.specs.Looked.{declared}
-use Rattle.canon_tags.specs.Scoped.{space_in}
+use Rattle.doc_spans.specs.Looked.{declared}
+use Rattle.doc_spans.specs.Scoped.{space_in}
 use Rattle.canon_tags.proofs.attributes.attribute_space.Goals as goal
 
 pub returns-then-is_empty-clause-value : goal.returns-then-is_empty-clause-value

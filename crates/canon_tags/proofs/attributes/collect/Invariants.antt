@@ -1,7 +1,7 @@
 use Rattle.std.proofs.Common.{◌≡◌, ◌++◌, map}
 use Rattle.xml_items.specs.Attributes.{attributes_left}
 use Rattle.canon_tags.specs.Entries.{entries_in, named, plain_ones}
-use Rattle.canon_tags.specs.Looked.{declared}
+use Rattle.doc_spans.specs.Looked.{declared}
 use Rattle.canon_tags.proofs.attributes.collect.Given as goal
 
 -- those that were taken, and then those that are left

@@ -1,7 +1,7 @@
 use Rattle.std.proofs.Common.{◌∙◌, arith}
 use Rattle.xml_items.specs.Attributes.{attributes_left}
 use Rattle.canon_tags.specs.Entries.{entries_in}
-use Rattle.canon_tags.specs.Looked.{declared}
+use Rattle.doc_spans.specs.Looked.{declared}
 use Rattle.canon_tags.proofs.InheritedEntries.{first_step, next_step}
 use Rattle.canon_tags.proofs.attributes.inherit.Goals as goal
 

@@ -2,8 +2,8 @@ use Rattle.std.proofs.Common.{◌≡◌, ◌≤◌, List, map, length, take}
 use Rattle.document_model.specs.Items.{Attribute}
 use Rattle.document_model.specs.Canonical.{with_inherited}
 use Rattle.canon_tags.specs.Entries.{entries_in, named, attributes_of_entries}
-use Rattle.canon_tags.specs.Looked.{declared}
-use Rattle.canon_tags.specs.Opened.{opened_in}
+use Rattle.doc_spans.specs.Looked.{declared}
+use Rattle.doc_spans.specs.Opened.{opened_in}
 use Rattle.canon_tags.proofs.attributes.inherit.Given as goal
 
 -- what all elements give is what those that are left give

@@ -4,7 +4,7 @@ use Rattle.std.specs.Str.{chars}
 use Rattle.document_model.specs.Canonical.{is_xml, has_local}
 use Rattle.xml_items.specs.Attributes.{attribute_in, attributes_left}
 use Rattle.canon_tags.specs.Entries.{entry_in, entries_in, named, attributes_of_entries}
-use Rattle.canon_tags.specs.Looked.{declared}
+use Rattle.doc_spans.specs.Looked.{declared}
 use Rattle.canon_tags.proofs.Sorting.{map_join}
 use Rattle.canon_tags.proofs.InheritedEntries.{taken, both_hold}
 use Rattle.canon_tags.proofs.attributes.inherit_from.Goals as goal

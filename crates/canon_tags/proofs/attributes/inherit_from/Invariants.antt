@@ -1,7 +1,7 @@
 use Rattle.std.proofs.Common.{◌≡◌, ◌≤◌, ◌++◌, map, take, vec_len}
 use Rattle.xml_items.specs.Attributes.{attributes_left}
 use Rattle.canon_tags.specs.Entries.{entries_in, named, attributes_of_entries, inherited_of}
-use Rattle.canon_tags.specs.Looked.{declared}
+use Rattle.doc_spans.specs.Looked.{declared}
 use Rattle.canon_tags.proofs.attributes.inherit_from.Given as goal
 
 -- those that were taken, and then those that are left; those that were there before stand in front

@@ -1,5 +1,5 @@
 use Rattle.std.proofs.Common.{◌≡◌, drop}
-use Rattle.canon_tags.specs.Looked.{declared}
+use Rattle.doc_spans.specs.Looked.{declared}
 use Rattle.canon_tags.specs.Own.{own_prefixes}
 use Rattle.canon_tags.specs.Rules.{rule_in}
 use Rattle.canon_tags.specs.Scoped.{gathered, is_declared_anew}

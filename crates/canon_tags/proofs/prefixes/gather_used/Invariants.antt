@@ -1,6 +1,6 @@
 use Rattle.std.proofs.Common.{◌≡◌, []}
 use Rattle.xml_items.specs.Attributes.{attributes_left}
-use Rattle.canon_tags.specs.Looked.{declared}
+use Rattle.doc_spans.specs.Looked.{declared}
 use Rattle.canon_tags.specs.Rules.{prefixes_in}
 use Rattle.canon_tags.specs.Scoped.{gathered, is_rendered_anew, with_used}
 use Rattle.canon_tags.specs.Texts.{texts_in}

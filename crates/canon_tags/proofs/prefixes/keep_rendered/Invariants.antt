@@ -1,8 +1,8 @@
 use Rattle.std.proofs.Common.{◌≡◌, ◌++◌, map, vec_len}
 use Rattle.document_model.specs.Canonical.{declared_as}
-use Rattle.canon_tags.specs.Declarations.{nearest_first}
-use Rattle.canon_tags.specs.Looked.{declared}
-use Rattle.canon_tags.specs.Scoped.{space_in}
+use Rattle.doc_spans.specs.Declarations.{nearest_first}
+use Rattle.doc_spans.specs.Looked.{declared}
+use Rattle.doc_spans.specs.Scoped.{space_in}
 use Rattle.canon_tags.specs.Texts.{texts_in}
 use Rattle.canon_tags.proofs.prefixes.keep_rendered.Given as goal
 

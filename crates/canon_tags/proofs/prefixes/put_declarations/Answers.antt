@@ -2,8 +2,8 @@ use Rattle.std.proofs.Common.{map, refl}
 use Rattle.std.specs.Prelude.{flat_map}
 use Rattle.std.specs.Str.{chars}
 use Rattle.document_model.specs.Canonical.{declaration_text, declared_as}
-use Rattle.canon_tags.specs.Looked.{declared}
-use Rattle.canon_tags.specs.Scoped.{space_in}
+use Rattle.doc_spans.specs.Looked.{declared}
+use Rattle.doc_spans.specs.Scoped.{space_in}
 use Rattle.canon_tags.specs.Texts.{texts_in}
 use Rattle.canon_tags.proofs.WrittenTexts.{each_put}
 use Rattle.canon_tags.proofs.prefixes.put_declarations.Goals as goal

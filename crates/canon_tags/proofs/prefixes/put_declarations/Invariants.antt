@@ -1,8 +1,8 @@
 use Rattle.std.proofs.Common.{◌≡◌, ◌++◌, drop, map}
 use Rattle.std.specs.Prelude.{encode_utf8_all, flat_map}
 use Rattle.document_model.specs.Canonical.{declaration_text, declared_as}
-use Rattle.canon_tags.specs.Looked.{declared}
-use Rattle.canon_tags.specs.Scoped.{space_in}
+use Rattle.doc_spans.specs.Looked.{declared}
+use Rattle.doc_spans.specs.Scoped.{space_in}
 use Rattle.canon_tags.specs.Texts.{texts_in}
 use Rattle.canon_tags.proofs.prefixes.put_declarations.Given as goal
 

@@ -8,6 +8,7 @@ use Rattle.doc_spans.proofs.standing.closes.Goals as goal
 
 pub returns-in-Some : goal.returns-in-Some
 returns-in-Some c =
-    let last : slice_get c.args.tags.now.items (length c.args.tags.now.items - 1) ≡ Some c.in-Some.tag.now =
+    let tags = c.args.elements.now.tags.items in
+    let last : slice_get tags (length tags - 1) ≡ Some c.in-Some.opened.now =
     ap (λ l. slice_get l (length l - 1)) (sym c.deref.ensures.value) ∙ sym c.in-Some.ensures.value in
-    c.same_name.ensures ∙ sym (ap (closes (name_in (chars c.args.name.now))) (tags_last [] c.args.tags.now.items c.in-Some.tag.now last).is)
+    c.same_name.ensures ∙ sym (ap (closes (name_in (chars c.args.name.now))) (tags_last [] tags c.in-Some.opened.now last).is)

@@ -1,6 +1,6 @@
 use Rattle.std.proofs.Common.{[], ◌∙◌, ap, cond}
-use Rattle.canon_tags.specs.Declarations.{nearest_first}
-use Rattle.canon_tags.proofs.ScopeStacks.{rendered_left}
+use Rattle.doc_spans.specs.Declarations.{nearest_first}
+use Rattle.doc_spans.proofs.ScopeStacks.{rendered_left}
 use Rattle.canon_tags.proofs.around.Around.close.Goals as goal
 
 pub returns : goal.returns

@@ -2,12 +2,12 @@ use Rattle.std.proofs.Common.{◌∙◌, ◌≡◌, ◌+◌, ◌∷◌, [], ap, 
 use Rattle.document_model.specs.Canonical.{sorted, with_inherited}
 use Rattle.doc_spans.specs.OpenTags.{tag_in}
 use Rattle.canon_tags.specs.Around.{around_in}
-use Rattle.canon_tags.specs.Declarations.{nearest_first}
+use Rattle.doc_spans.specs.Declarations.{nearest_first}
 use Rattle.canon_tags.specs.Entries.{entries_text, is_named_before, named, plain_ones}
-use Rattle.canon_tags.specs.Opened.{opened_in}
+use Rattle.doc_spans.specs.Opened.{opened_in}
 use Rattle.canon_tags.specs.Rules.{rule_in}
-use Rattle.canon_tags.specs.Scoped.{scope_of}
-use Rattle.canon_tags.specs.Scopes.{tags_around}
+use Rattle.doc_spans.specs.Scoped.{scope_of}
+use Rattle.doc_spans.specs.Scopes.{tags_around}
 use Rattle.canon_tags.specs.Texts.{texts_in}
 use Rattle.canon_tags.proofs.AttributeTexts.{written_attributes}
 use Rattle.canon_tags.proofs.Entering.{found_declarations, shared_scope, given_attributes}

@@ -1,9 +1,9 @@
 use Rattle.std.proofs.Common.{◌∙◌, ◌++◌, ap, refl, arith}
 use Rattle.doc_spans.specs.OpenTags.{tag_in}
 use Rattle.canon_tags.specs.Around.{around_in, found_in}
-use Rattle.canon_tags.specs.Declarations.{declaration_in, nearest_first}
+use Rattle.doc_spans.specs.Declarations.{declaration_in, nearest_first}
 use Rattle.canon_tags.proofs.Entering.{leads_back}
-use Rattle.canon_tags.proofs.StackLists.{stacked_length}
+use Rattle.doc_spans.proofs.StackLists.{stacked_length}
 use Rattle.canon_tags.proofs.around.Around.open.Goals as goal
 
 pub returns-in-Ok-clause-back : goal.returns-in-Ok-clause-back

@@ -5,9 +5,9 @@ use Rattle.document_model.specs.Names.{spelled}
 use Rattle.document_model.specs.Canonical.{declaration_text, declared_as}
 use Rattle.xml_items.specs.Found.{name_in}
 use Rattle.canon_tags.specs.Around.{found_in}
-use Rattle.canon_tags.specs.Declarations.{nearest_first}
+use Rattle.doc_spans.specs.Declarations.{nearest_first}
 use Rattle.canon_tags.specs.Entries.{entries_in, entries_text}
-use Rattle.canon_tags.specs.Scoped.{space_in}
+use Rattle.doc_spans.specs.Scoped.{space_in}
 use Rattle.canon_tags.specs.Texts.{texts_in}
 use Rattle.canon_tags.proofs.WrittenTexts.{name_text, tag_put}
 use Rattle.canon_tags.proofs.around.Around.put_tag.Goals as goal

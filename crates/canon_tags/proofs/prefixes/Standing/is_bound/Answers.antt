@@ -1,6 +1,6 @@
 use Rattle.std.proofs.Common.{◌∙◌, sym}
 use Rattle.std.specs.Str.{chars}
-use Rattle.canon_tags.specs.Looked.{declared}
+use Rattle.doc_spans.specs.Looked.{declared}
 use Rattle.canon_tags.proofs.Lookups.{bound_there, bound_else, some_map}
 use Rattle.canon_tags.proofs.prefixes.Standing.is_bound.Goals as goal
 

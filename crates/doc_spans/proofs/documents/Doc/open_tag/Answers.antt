@@ -1,9 +1,12 @@
 use Rattle.std.proofs.Common.{◌∙◌}
-use Rattle.doc_spans.proofs.Calls.{start_within, tag_value, no_tag_value, other_tag}
+use Rattle.doc_spans.proofs.Calls.{start_within, item_stands, tag_value, no_tag_value, other_tag}
 use Rattle.doc_spans.proofs.documents.Doc.open_tag.Goals as goal
 
-pub next_item-requires : goal.next_item-requires
-next_item-requires c = start_within c.args.self.bytes.now c.args.self.tree.now c.args.node.0 c.row-row.result.now c.args.self.whole c.row-row.ensures
+pub known_item-requires-clause-at : goal.known_item-requires-clause-at
+known_item-requires-clause-at c = start_within c.args.self.bytes.now c.args.self.tree.now c.args.node.0 c.row-row.result.now c.args.self.whole c.row-row.ensures
+
+pub known_item-requires-clause-stands : goal.known_item-requires-clause-stands
+known_item-requires-clause-stands c = item_stands c.args.self.bytes.now c.args.self.tree.now c.args.node.0 c.row-row.result.now c.args.self.whole c.row-row.ensures
 
 pub returns-in-Some : goal.returns-in-Some
 returns-in-Some c =

@@ -1,4 +1,0 @@
-use Rattle.canon_tags.proofs.scopes.+push_declarations.Given as goal
-
-abbrev pub decreases-push_declarations : goal.decreases-push_declarations
-decreases-push_declarations l = l.attributes.left

@@ -1,8 +1,0 @@
-use Rattle.canon_tags.proofs.ScopeStacks.{opened_push}
-use Rattle.canon_tags.proofs.scopes.push_opened.Goals as goal
-
-pub returns-clause-tags : goal.returns-clause-tags
-returns-clause-tags c = opened_push c.args.tags.now.items c.push.new.self.items _ c.in_ok-push.ensures.items
-
-pub returns-clause-inner : goal.returns-clause-inner
-returns-clause-inner c = (_, c.in_ok-push.ensures.items)
