@@ -13,3 +13,4 @@ pub mod Trees
 pub mod WorldLaws
 pub mod XmssTrees
 pub mod Days
+pub mod Counts

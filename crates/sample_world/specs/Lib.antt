@@ -3,6 +3,7 @@ pub mod LmsSeed
 pub mod LmsKeys
 pub mod XmssKeys
 pub mod World
+pub mod Counts
 pub mod Moments
 pub mod Parts
 pub mod Certificates

@@ -76,6 +76,10 @@ impl Model for World {
     ghost Value = { Ledger };
 
     ghost view = { λ w. record { secret = w.secret; used = w.used; xmss_used = w.xmss_used; tokens = w.tokens } };
+
+    ghost use Rattle.sample_world.specs.Counts.{AreCounts};
+
+    ghost invariant = { λ w. AreCounts w.used w.tokens };
 }
 
 impl World {
@@ -366,10 +370,6 @@ impl World {
     {
         if self.is_spent(signer) {
             return Err(WorldFault::Spent);
-        }
-        // Never so: 256 keys make 32 signatures each at most.
-        if self.tokens >= 8192 {
-            return Err(WorldFault::OutOfMemory);
         }
         let serial = self.tokens + 1;
         let info = stamp_info(self.alloc, kind, covered.as_slice(), serial, gen_time)?;

@@ -3,6 +3,7 @@ use Rattle.std.specs.Prelude.{slice_index}
 use Rattle.lms_verify.specs.LmOts.{u32str}
 use Rattle.sample_world.specs.LmsKeys.{lms_key, lms_signature}
 use Rattle.sample_world.specs.World.{id_of, seed_of, randomizer, two_signatures_of}
+use Rattle.sample_world.proofs.Counts.{both_counted_still}
 use Rattle.sample_world.proofs.WorldLaws.{two_good}
 use Rattle.sample_world.proofs.world.World.sign_two.Goals as goal
 
@@ -25,3 +26,9 @@ returns-clause-good c =
     let value : c.put_signature-2.new.out ≡ two_signatures_of w c.args.upper c.args.lower c.args.message.now =
     three ∙ append_assoc (u32str 1 ++ first) key second ∙ append_assoc (u32str 1) first (key ++ second) in
     two_good c.args.self.now c.args.upper c.args.lower c.args.message.now c.put_signature-2.new.out value upper lower
+
+pub invariant_of-self-2 : goal.invariant_of-self-2
+invariant_of-self-2 c =
+    let upper : slice_index c.self.inside.used c.args.upper < 32 = search rules in
+    let lower : slice_index c.self.inside.used c.args.lower < 32 = search rules in
+    both_counted_still c.self.inside.used c.self.inside.tokens c.args.upper c.args.lower c.requires.upper c.requires.lower c.requires.differ upper lower c.self.invariant
