@@ -7,7 +7,6 @@ mod decoding;
 mod digest_methods;
 mod externals;
 mod faults;
-mod gathering;
 mod handing;
 mod octets;
 mod places;

@@ -3,15 +3,17 @@
 ghost use Rattle.std.specs.Prelude.{◌≡◌, IfOk};
 ghost use Rattle.std.specs.Str.{chars};
 ghost use Rattle.doc_spans.specs.Pieces.{characters_left};
+ghost use Rattle.doc_spans.specs.declared.documents.Doc.{Doc};
 ghost use Rattle.doc_spans.specs.Seen.{document_in};
+ghost use Rattle.node_index.specs.Identifiers.{AreOf};
 ghost use Rattle.signature_model.specs.Chains.{place, place_named};
 ghost use Rattle.signature_model.specs.Parts.{uri};
 ghost use Rattle.signature_elements.specs.Standing.{spot_of, IsThere};
 ghost use Rattle.reference_chains.specs.Places.{found, found_in, HasPlace};
 
-use crate::gathering::gathered;
 use doc_spans::{Doc, NodeId, Pieces};
-use node_sets::{IdAnswer, find_id};
+use node_index::{Identifiers, gathered};
+use node_sets::IdAnswer;
 use signature_elements::attribute;
 use std::alloc::Global;
 use xa_io::OutOfMemory;
@@ -50,26 +52,32 @@ pub fn uri_of<'a>(doc: Doc<'a>, reference: NodeId) -> Pieces<'a>
     }
 }
 
-/// Finds what the URI of a Reference names. An identifier is looked up in the whole document.
-pub fn place_of(alloc: Global, doc: Doc<'_>, reference: NodeId) -> Result<Place, OutOfMemory>
-    requires { IsThere doc reference }
+/// Finds what the URI of a Reference names. An identifier is looked up once among those of the document.
+pub fn place_of(
+    alloc: Global,
+    doc: Doc<'_>,
+    identifiers: &Identifiers,
+    reference: NodeId,
+) -> Result<Place, OutOfMemory>
+    requires there { IsThere doc reference }
+    requires identifiers { AreOf doc identifiers.now }
     ensures found { IfOk result (λ p. found_in doc.entry p ≡ found (document_in doc.entry) (place (spot_of doc.entry reference))) }
     ensures has { IfOk result (HasPlace doc.entry) }
 {
     let uri = gathered(alloc, uri_of(doc, reference))?;
-    Ok(place_named(doc, &uri))
+    Ok(place_named(identifiers, uri.as_str()))
 }
 
 // What a URI names.
-fn place_named(doc: Doc<'_>, uri: &str) -> Place
-    ensures found { found_in doc.entry result ≡ found (document_in doc.entry) (place_named (chars uri.now)) }
-    ensures has { HasPlace doc.entry result }
+fn place_named(identifiers: &Identifiers, uri: &str) -> Place
+    ensures found { (doc : Doc) → AreOf doc identifiers.now → found_in doc result ≡ found (document_in doc) (place_named (chars uri.now)) }
+    ensures has { (doc : Doc) → AreOf doc identifiers.now → HasPlace doc result }
 {
     match first(uri) {
         None => Place::Document,
         Some((c, identifier)) => {
             if c == '#' {
-                Place::Named(find_id(doc, identifier))
+                Place::Named(identifiers.find(identifier))
             } else {
                 Place::External
             }

@@ -91,7 +91,7 @@ fn target_set<'a>(doc: Doc<'a>, place: Place) -> Option<NodeSet<'a>>
     }
 }
 
-/// Whether the nodes that a Reference of a signature names hold an element, wherever its octets are the same without it.
+/// Whether the nodes that a Reference of a signature names hold an element. It looks at no octets.
 pub fn is_reached(doc: Doc<'_>, signature: NodeId, place: NodeId, reference: Reference) -> bool
     requires signature { Has doc signature }
     requires place { IsThere doc place }

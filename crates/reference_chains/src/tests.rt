@@ -12,6 +12,7 @@ use crate::{
 use algorithms::DigestKind;
 use canon_forms::Form;
 use doc_spans::{Doc, NodeId, Tree};
+use node_index::Identifiers;
 use node_sets::{IdAnswer, find_id};
 use signature_elements::{ds, first_called, first_in};
 use std::alloc::Global;
@@ -101,7 +102,8 @@ fn found(alloc: Global, doc: Doc<'_>, name: &str) -> Result<Option<Reference>, F
 {
     match reference_in(doc, name) {
         Some(node) => {
-            let place = place_of(alloc, doc, node)?;
+            let identifiers = Identifiers::of(alloc, doc)?;
+            let place = place_of(alloc, doc, &identifiers, node)?;
             Ok(Reference::of(doc, node, place))
         }
         None => Ok(None),
@@ -168,8 +170,9 @@ fn reaches_value(alloc: Global, name: &str) -> Result<bool, Fail> {
 
 // What a Reference's URI names.
 fn place(alloc: Global, doc: Doc<'_>, name: &str) -> Result<Option<Place>, Fail> {
+    let identifiers = Identifiers::of(alloc, doc)?;
     match reference_in(doc, name) {
-        Some(node) => Ok(Some(place_of(alloc, doc, node)?)),
+        Some(node) => Ok(Some(place_of(alloc, doc, &identifiers, node)?)),
         None => Ok(None),
     }
 }

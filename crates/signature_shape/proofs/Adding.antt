@@ -1,6 +1,6 @@
 -- Places that are added one after another.
 use Rattle.std.proofs.Common.{◌≡◌, Bool, true, false, cond, List, [], ◌∷◌, ◌++◌, Option, Some, None, refl, sym, ◌∙◌, ap}
-use Rattle.std.specs.Prelude.{filter, map, option_map}
+use Rattle.std.specs.Prelude.{filter, option_map}
 use Rattle.document_model.specs.Tree.{Path}
 use Rattle.doc_spans.specs.declared.documents.Doc.{Doc}
 use Rattle.doc_spans.specs.declared.documents.NodeId.{NodeId}

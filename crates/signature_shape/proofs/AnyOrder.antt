@@ -1,6 +1,6 @@
 -- The first of some places is the same in whatever order they are added.
 use Rattle.std.proofs.Common.{◌≡◌, Bool, true, false, cond, List, [], ◌∷◌, ◌++◌, Option, Some, None, refl, sym, ◌∙◌, ap}
-use Rattle.std.proofs.lemmas.Bool.{true≢false, false≢true}
+use Rattle.std.proofs.lemmas.Bool.{true≢false}
 use Rattle.document_model.specs.Canonical.{is_before}
 use Rattle.document_model.specs.Tree.{Path}
 use Rattle.document_model.proofs.ListOrder.{before_on, before_one_way, before_or_same}

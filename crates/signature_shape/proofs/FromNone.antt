@@ -1,12 +1,10 @@
 -- The first place of a line, and names that are written in the program.
-use Rattle.std.proofs.Common.{◌≡◌, ℕ, Bool, true, List, Option, Some, None, refl, ◌∙◌, ap}
-use Rattle.std.specs.Prelude.{option_map}
+use Rattle.std.proofs.Common.{◌≡◌, ℕ, Bool, true, List, None, ◌∙◌, ap}
 use Rattle.std.specs.Str.{chars}
 use Rattle.document_model.specs.Names.{Expanded}
 use Rattle.document_model.specs.Tree.{Path}
 use Rattle.xml_items.specs.Texts.{is_ascii}
 use Rattle.doc_spans.specs.declared.documents.Doc.{Doc}
-use Rattle.doc_spans.specs.Seen.{path_in}
 use Rattle.signature_model.specs.Spots.{Spot, is_called}
 use Rattle.signature_model.specs.Vocabulary.{ds, xades}
 use Rattle.signature_shape.specs.declared.places.FirstPlace.{FirstPlace}
@@ -14,7 +12,7 @@ use Rattle.signature_model.specs.Faults.{with_places}
 use Rattle.signature_shape.specs.Places.{place_in, Adds, IsFirst, IsWithin}
 use Rattle.signature_shape.proofs.Adding.{Adding, adds_as, adds_first}
 use Rattle.signature_shape.proofs.AnyOrder.{Alike, adds_alike}
-use Rattle.signature_shape.proofs.Named.{ds_name, xades_name, text_of}
+use Rattle.signature_shape.proofs.Named.{ds_name, xades_name}
 
 pub first_of_all : (doc : Doc) (a b : List Path) (x y : FirstPlace) → x.node ≡ None → Alike a b → Adds doc a x y → IsFirst doc b y
 first_of_all doc a b x y e l h = adds_first doc b x y e (adds_alike doc a b x y l h)

@@ -7,3 +7,5 @@ pub mod FromNone
 pub mod NoneLeft
 pub mod LineEach
 pub mod LineFaults
+pub mod Ordered
+pub mod FormatLists

@@ -1,5 +1,5 @@
 -- What lines ask of several elements they ask of one after another.
-use Rattle.std.proofs.Common.{◌≡◌, Bool, not, List, [], ◌∷◌, ◌++◌, refl, sym, ◌∙◌, ap, codes}
+use Rattle.std.proofs.Common.{not, List, ◌++◌, refl, sym, ◌∙◌, ap, codes}
 use Rattle.std.proofs.lemmas.List.{append-nil, map-append}
 use Rattle.std.specs.Prelude.{drop, filter, flat_map, map}
 use Rattle.document_model.specs.Characters.{is_empty}

@@ -5,7 +5,7 @@ use Rattle.document_model.specs.Canonical.{is_before}
 use Rattle.document_model.specs.Tree.{Nodes, Path}
 use Rattle.doc_spans.specs.declared.documents.Doc.{Doc}
 use Rattle.doc_spans.specs.Seen.{document_in}
-use Rattle.signature_model.specs.Faults.{What, ShapeFault, earlier, first_place, sooner, first_fault, with_fault, with_faults, of_line}
+use Rattle.signature_model.specs.Faults.{What, ShapeFault, earlier, first_place, sooner, first_fault, with_faults, of_line}
 use Rattle.signature_model.specs.Faults as words
 use Rattle.signature_model.specs.Shape.{shape_faults, covered_line, signed_line, data_object_line, key_line, value_line, stamp_line, values_line}
 use Rattle.signature_model.specs.Spots.{Spot}

@@ -13,7 +13,7 @@ use Rattle.doc_spans.specs.declared.documents.NodeId.{NodeId}
 use Rattle.doc_spans.specs.Seen.{document_in}
 use Rattle.signature_model.specs.Spots.{Spot, attribute, is_called, elements_in, called, called_in, first}
 use Rattle.signature_model.specs.Vocabulary.{ds, xades, xadesv141}
-use Rattle.signature_elements.specs.Standing.{spot_of, spot_or_none, IsThere}
+use Rattle.signature_elements.specs.Standing.{spot_or_none, IsThere}
 use Rattle.signature_shape.specs.Parts.{IsPart}
 
 -- the characters of an ASCII text are its bytes

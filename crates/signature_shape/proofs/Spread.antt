@@ -1,7 +1,7 @@
 -- Places of several elements are those of one element after another.
 use Rattle.std.proofs.Common.{◌≡◌, Bool, true, false, cond, List, [], ◌∷◌, ◌++◌, refl, sym, ◌∙◌, ap, append_assoc}
 use Rattle.std.proofs.lemmas.List.{append-nil}
-use Rattle.std.specs.Prelude.{filter, flat_map, map}
+use Rattle.std.specs.Prelude.{filter, flat_map}
 use Rattle.document_model.specs.Tree.{Path}
 use Rattle.signature_model.specs.Spots.{Spot, paths}
 use Rattle.signature_shape.proofs.AnyOrder.{Alike, alike_as, alike_on, alike_back, alike_joined, alike_crossed}

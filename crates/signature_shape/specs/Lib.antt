@@ -9,3 +9,4 @@ pub mod QualifyingLeft
 pub mod Digests
 pub mod LineParts
 pub mod Lines
+pub mod DataObjects

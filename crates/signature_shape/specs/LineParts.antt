@@ -1,5 +1,5 @@
 -- What the lines of a signature's shape ask of one element after another.
-use Rattle.std.specs.Prelude.{Bool, false, not, ◌||◌, if◌then◌else◌, List, [], ◌∷◌, ◌++◌, filter, flat_map, map, is_none, codes}
+use Rattle.std.specs.Prelude.{Bool, false, not, ◌||◌, if◌then◌else◌, List, [], ◌∷◌, ◌++◌, drop, filter, flat_map, map, is_none, codes}
 use Rattle.std.specs.Option.{option_map_or}
 use Rattle.document_model.specs.Characters.{◌is◌, is_empty}
 use Rattle.document_model.specs.Tree.{Nodes, Path}
@@ -76,6 +76,15 @@ format_text_faults document formats =
     with_stray_text document formats
     ++ lacking document (xades (codes "MimeType")) formats
     ++ without_text document (first (called_in document (xades (codes "MimeType")) formats))
+
+-- the faults of a Reference by the formats that point to it, in the properties of data objects
+abbrev pub faults_by_formats : Nodes → List Spot → List Spot → List Path
+faults_by_formats document holders formats =
+    (if is_empty formats then paths holders else [])
+    ++ paths (drop 1 formats)
+    ++ with_stray_text document (first formats)
+    ++ lacking document (xades (codes "MimeType")) (first formats)
+    ++ without_text document (first (called_in document (xades (codes "MimeType")) (first formats)))
 
 -- Stamp: what stamps hold
 

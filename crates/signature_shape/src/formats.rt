@@ -1,92 +1,112 @@
 //! The formats of data objects (EN 319 132-1, clause 5.2.4).
 
-ghost use Rattle.std.specs.Prelude.{◌≡◌, ◌∷◌, [], MatchOption, codes, filter};
-ghost use Rattle.doc_spans.specs.Seen.{Has, document_in};
+ghost use Rattle.std.specs.Prelude.{◌≡◌, ◌∷◌, ℕ, List, IfOk, IfSome, OnOk, codes, filter, take};
+ghost use Rattle.doc_spans.specs.Seen.{document_in};
+ghost use Rattle.node_index.specs.Indices.{sighted};
 ghost use Rattle.signature_elements.specs.Standing.{spot_of, spot_or_none, IsThere};
-ghost use Rattle.signature_model.specs.Shape.{signed_data_properties, format_faults};
-ghost use Rattle.signature_model.specs.Spots.{called_in, paths};
+ghost use Rattle.signature_model.specs.Shape.{format_faults};
+ghost use Rattle.signature_model.specs.Spots.{Spot, called_in};
 ghost use Rattle.signature_model.specs.Vocabulary.{xades};
-ghost use Rattle.signature_shape.specs.LineParts.{is_format_of, format_text_faults};
-ghost use Rattle.signature_shape.specs.ListsLeft.{named_doc, named_left};
+ghost use Rattle.signature_shape.specs.DataObjects.{seen_in, AddsFormat, AreThere, IsFound, IsIndexOf};
+ghost use Rattle.signature_shape.specs.LineParts.{faults_by_formats, is_format_of, format_text_faults};
 ghost use Rattle.signature_shape.specs.Places.{Adds, IsWithin};
 
+use crate::data_objects::DataObjects;
 use crate::lists::NamedIn;
-use crate::parts::signed_data_properties;
 use crate::places::FirstPlace;
 use doc_spans::{Doc, NodeId};
-use signature_elements::{attribute, first_called, points_to, xades};
+use node_index::{NodeIndex, Sightings, fragment, gathered};
+use signature_elements::{attribute, first_called, xades};
+use std::alloc::Global;
+use xa_io::OutOfMemory;
+
+/// The `DataObjectFormat` elements that an element holds, by what they point to.
+pub(crate) fn formats_by_target(
+    alloc: Global,
+    doc: Doc<'_>,
+    holder: Option<NodeId>,
+) -> Result<NodeIndex, OutOfMemory>
+    requires { IfSome holder (IsThere doc) }
+    ensures { IfOk result (IsIndexOf doc.entry (called_in (document_in doc.entry) (xades (codes "DataObjectFormat")) (spot_or_none doc.entry holder))) }
+{
+    let mut index = NodeIndex::new(alloc);
+    for format in NamedIn::of(doc, holder, xades("DataObjectFormat")) {
+        add_target(&mut index, alloc, doc, format)?;
+    }
+    Ok(index)
+}
+
+// Adds a format under what it points to.
+fn add_target(
+    index: &mut NodeIndex,
+    alloc: Global,
+    doc: Doc<'_>,
+    format: NodeId,
+) -> Result<(), OutOfMemory>
+    requires format { IsThere doc format }
+    requires there { (uri : List ℕ) → AreThere doc (sighted index.old uri) }
+    ensures { OnOk result (AddsFormat doc.entry format index.old index.new) }
+{
+    if let Some(target) = attribute(doc, format, "ObjectReference") {
+        index.add(gathered(alloc, target)?, format)?;
+    }
+    Ok(())
+}
 
 /// Adds the faults of the formats that point to a Reference by its Id: there is one, with a `MimeType` that isn't blank.
+///
+/// Of several formats the second is the first of those that are too many.
 pub(crate) fn add_format_faults(
     place: &mut FirstPlace,
+    alloc: Global,
     doc: Doc<'_>,
-    signature: NodeId,
+    objects: &DataObjects,
     reference: NodeId,
-)
+) -> Result<(), OutOfMemory>
     requires within { IsWithin doc place.old }
-    requires has { Has doc signature }
+    requires found { IsFound doc objects.now }
     requires there { IsThere doc reference }
-    ensures { Adds doc.entry (format_faults (document_in doc.entry) (spot_of doc.entry signature) (spot_of doc.entry reference)) place.old place.new }
+    ensures { OnOk result (Adds doc.entry (format_faults (document_in doc.entry) (spot_of doc.entry objects.now.signature) (spot_of doc.entry reference)) place.old place.new) }
 {
-    let mut formats = formats(doc, signature);
-    match next_format(doc, &mut formats, reference) {
-        Some(format) => {
-            add_formats(place, doc, formats, reference);
-            add_format(place, doc, format);
-        }
-        None => place.add_part(doc, signed_data_properties(doc, signature)),
-    }
+    let seen = formats_of(alloc, doc, &objects.formats, reference)?;
+    add_seen(place, doc, objects.properties, seen);
+    Ok(())
 }
 
-// The `DataObjectFormat` elements of a signature.
-fn formats<'a>(doc: Doc<'a>, signature: NodeId) -> NamedIn<'a, 'static>
-    requires { Has doc signature }
-    ensures doc { named_doc result ≡ doc.entry }
-    ensures spots { named_left result ≡ called_in (document_in doc.entry) (xades (codes "DataObjectFormat")) (signed_data_properties (document_in doc.entry) (spot_of doc.entry signature)) }
-{
-    NamedIn::of(
-        doc,
-        signed_data_properties(doc, signature),
-        xades("DataObjectFormat"),
-    )
-}
-
-// Whether a format points to a Reference by its Id.
-fn is_format_of(doc: Doc<'_>, reference: NodeId, format: NodeId) -> bool
-    requires reference { IsThere doc reference }
-    requires format { IsThere doc format }
-    ensures { result ≡ is_format_of (spot_of doc.entry reference) (spot_of doc.entry format) }
+// The first two formats that point to a Reference by its Id.
+fn formats_of(
+    alloc: Global,
+    doc: Doc<'_>,
+    formats: &NodeIndex,
+    reference: NodeId,
+) -> Result<Sightings, OutOfMemory>
+    requires { IsThere doc reference }
+    ensures seen { IfOk result (λ seen. (all : List Spot) → IsIndexOf doc.entry all formats.now → seen_in doc.entry seen ≡ take 2 (filter (is_format_of (spot_of doc.entry reference)) all)) }
+    ensures there { IfOk result (λ seen. (all : List Spot) → IsIndexOf doc.entry all formats.now → AreThere doc.entry seen) }
 {
     match attribute(doc, reference, "Id") {
-        Some(id) => points_to(attribute(doc, format, "ObjectReference"), Some(id)),
-        None => false,
-    }
-}
-
-// The next format of a Reference; those before it are passed.
-fn next_format(doc: Doc<'_>, formats: &mut NamedIn<'_, '_>, reference: NodeId) -> Option<NodeId>
-    requires same { named_doc formats.old ≡ doc }
-    requires there { IsThere doc reference }
-    ensures doc { named_doc formats.new ≡ doc.entry }
-    ensures next { MatchOption result (filter (is_format_of (spot_of doc.entry reference)) (named_left formats.old) ≡ []) (λ node. IsThere doc.entry node × (filter (is_format_of (spot_of doc.entry reference)) (named_left formats.old) ≡ spot_of doc.entry node ∷ filter (is_format_of (spot_of doc.entry reference)) (named_left formats.new))) }
-{
-    'formats: while let Some(format) = formats.next() {
-        if is_format_of(doc, reference, format) {
-            return Some(format);
+        Some(id) => {
+            let uri = fragment(alloc, id)?;
+            Ok(formats.find(uri.as_str()))
         }
+        None => Ok(Sightings::Absent),
     }
-    None
 }
 
-// The formats of a Reference.
-fn add_formats(place: &mut FirstPlace, doc: Doc<'_>, formats: NamedIn<'_, '_>, reference: NodeId)
+// Adds the faults of the first two formats that point to a Reference.
+fn add_seen(place: &mut FirstPlace, doc: Doc<'_>, properties: Option<NodeId>, seen: Sightings)
     requires within { IsWithin doc place.old }
-    requires same { named_doc formats ≡ doc }
-    requires there { IsThere doc reference }
-    ensures { Adds doc.entry (paths (filter (is_format_of (spot_of doc.entry reference)) (named_left formats.entry))) place.old place.new }
+    requires properties { IfSome properties (IsThere doc) }
+    requires seen { AreThere doc seen }
+    ensures { Adds doc.entry (faults_by_formats (document_in doc.entry) (spot_or_none doc.entry properties) (seen_in doc.entry seen)) place.old place.new }
 {
-    for format in formats {
-        place.add_where(doc, format, is_format_of(doc, reference, format));
+    match seen {
+        Sightings::Absent => place.add_part(doc, properties),
+        Sightings::One(format) => add_format(place, doc, format),
+        Sightings::Several { first, second } => {
+            place.add(doc, second);
+            add_format(place, doc, first);
+        }
     }
 }
 

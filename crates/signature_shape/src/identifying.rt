@@ -1,31 +1,31 @@
 //! Whether a Reference points to KeyInfo.
 
-ghost use Rattle.std.specs.Prelude.{◌≡◌, ◌||◌, [], IfSome, codes, option_map, unwrap_or};
+ghost use Rattle.std.specs.Prelude.{◌≡◌, [], IfSome, option_map, unwrap_or};
 ghost use Rattle.std.specs.List.{list_any};
 ghost use Rattle.document_model.specs.Characters.{◌is◌};
 ghost use Rattle.xml_items.specs.Attributes.{attribute_in, attributes_left};
 ghost use Rattle.doc_spans.specs.Pieces.{characters_left};
-ghost use Rattle.doc_spans.specs.Seen.{Has, document_in};
-ghost use Rattle.signature_elements.specs.Standing.{spot_of, IsThere};
-ghost use Rattle.signature_model.specs.Shape.{is_identifying, is_to_key_info};
+ghost use Rattle.signature_elements.specs.Standing.{spot_of, spot_or_none, IsThere};
+ghost use Rattle.signature_model.specs.Shape.{is_identifying};
+ghost use Rattle.signature_model.specs.Parts.{uri};
 ghost use Rattle.signature_model.specs.Spots.{attributes_in};
 ghost use Rattle.signature_model.specs.Vocabulary.{fragment};
 
-use crate::parts::key_info;
 use doc_spans::{Doc, NodeId, Pieces};
+use node_index::is_identifier_name;
 use signature_elements::{attribute, points_to};
 use xml_items::attribute_walk::{Attribute, Attributes};
-use xml_items::texts::{is, is_empty};
+use xml_items::texts::is_empty;
 use xml_items::value_texts::is_empty_value;
 
 /// Whether a Reference points to the `KeyInfo` of a signature, by `#` and an identifier of it.
-pub(crate) fn is_to_key_info(doc: Doc<'_>, signature: NodeId, reference: NodeId) -> bool
-    requires has { Has doc signature }
+pub(crate) fn is_to_key_info(doc: Doc<'_>, key: Option<NodeId>, reference: NodeId) -> bool
+    requires key { IfSome key (IsThere doc) }
     requires there { IsThere doc reference }
-    ensures { result ≡ is_to_key_info (document_in doc.entry) (spot_of doc.entry signature) (spot_of doc.entry reference) }
+    ensures { result ≡ list_any (λ spot. list_any (is_identifying (uri (spot_of doc.entry reference))) (attributes_in spot.tags)) (spot_or_none doc.entry key) }
 {
-    match key_info(doc, signature) {
-        Some(key) => is_identified(doc, key, attribute(doc, reference, "URI")),
+    match key {
+        Some(node) => is_identified(doc, node, attribute(doc, reference, "URI")),
         None => false,
     }
 }
@@ -69,11 +69,4 @@ fn is_pointed_to(a: Attribute<'_>, uri: Option<Pieces<'_>>) -> bool
     ensures { result ≡ (unwrap_or (option_map characters_left uri.entry) [] is fragment (attribute_in a.entry).value) }
 {
     points_to(uri, Some(Pieces::of_value(a.value)))
-}
-
-// Whether an attribute may be an identifier by its name.
-fn is_identifier_name(a: Attribute<'_>) -> bool
-    ensures { result ≡ (((attribute_in a.entry).name.local is codes "Id") || ((attribute_in a.entry).name.local is codes "ID") || ((attribute_in a.entry).name.local is codes "id")) }
-{
-    is(a.local, "Id") || is(a.local, "ID") || is(a.local, "id")
 }

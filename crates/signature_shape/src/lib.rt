@@ -1,6 +1,7 @@
 //! The shape of a signature: what its elements have to hold, and where the first fault stands.
 #![tactic(auto)]
 
+mod data_objects;
 mod digests;
 mod faults;
 mod first_faults;

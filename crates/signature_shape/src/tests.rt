@@ -24,7 +24,7 @@ fn fails(alloc: Global, old: &str, new: &str, what: What, at: &str) -> Result<bo
     let Some(signature) = first_called(doc, doc.root(), ds("Signature")) else {
         return Ok(false);
     };
-    match first_fault(doc, signature) {
+    match first_fault(alloc, doc, signature)? {
         Some(fault) => Ok(
             fault.what == what
                 && text.as_str().find(at) == Some(doc.span(fault.node).start as usize),
@@ -41,7 +41,8 @@ fn passes_what_has_no_fault(rt: HostRuntime) -> Result<(), Fail> {
     let tree = Tree::read(rt.alloc(), bytes, &mut steps)?;
     let doc = Doc::of(bytes, &tree);
     let signature = first_called(doc, doc.root(), ds("Signature")).expect(&rt, "a signature");
-    assert!(rt; first_fault(doc, signature).is_none());
+    let fault = first_fault(rt.alloc(), doc, signature)?;
+    assert!(rt; fault.is_none());
     Ok(())
 }
 

@@ -1,5 +1,6 @@
 //! The lines on the signed and the unsigned properties: documents that break one of them, and the place at which each is broken.
 
+ghost use Rattle.std.specs.Prelude.{IfOk};
 ghost use Rattle.doc_spans.specs.Seen.{Has};
 ghost use Rattle.signature_shape.specs.Places.{IsWithin};
 
@@ -12,7 +13,7 @@ use doc_spans::{Doc, NodeId, Tree};
 use signature_elements::{ds, first_called};
 use std::alloc::{AllocError, Global};
 use std::test::Fail;
-use xa_io::Steps;
+use xa_io::{OutOfMemory, Steps};
 
 struct Ledger;
 
@@ -54,18 +55,26 @@ pub(crate) fn changed(alloc: Global, old: &str, new: &str) -> Result<String, All
 }
 
 // The first place of one of the lines that are tried here.
-fn line_place(line: What, doc: Doc<'_>, signature: NodeId) -> FirstPlace
+fn line_place(
+    alloc: Global,
+    line: What,
+    doc: Doc<'_>,
+    signature: NodeId,
+) -> Result<FirstPlace, OutOfMemory>
     requires { Has doc signature }
-    ensures { IsWithin doc.entry result }
+    ensures { IfOk result (IsWithin doc.entry) }
 {
     match line {
-        What::Covered => covered_line(doc, signature),
-        What::Signed => signed_line(doc, signature),
-        What::DataObject => data_object_line(doc, signature),
-        What::Key => key_line(doc, signature),
-        What::Value => value_line(doc, signature),
-        What::Stamp => stamp_line(doc, signature),
-        _ => values_line(doc, signature),
+        What::Covered => Ok(covered_line(doc, signature)),
+        What::Signed => Ok(signed_line(doc, signature)),
+        What::DataObject => {
+            let place = data_object_line(alloc, doc, signature)?;
+            Ok(place)
+        }
+        What::Key => Ok(key_line(doc, signature)),
+        What::Value => Ok(value_line(doc, signature)),
+        What::Stamp => Ok(stamp_line(doc, signature)),
+        _ => Ok(values_line(doc, signature)),
     }
 }
 
@@ -91,7 +100,7 @@ fn fails(alloc: Global, line: What, old: &str, new: &str, at: &str) -> Result<bo
     let doc = Doc::of(bytes, &tree);
     match first_called(doc, doc.root(), ds("Signature")) {
         Some(signature) => {
-            let place = line_place(line, doc, signature);
+            let place = line_place(alloc, line, doc, signature)?;
             Ok(start_of(doc, place) == expected_start(text.as_str(), at))
         }
         None => Ok(false),
@@ -216,7 +225,8 @@ fn has_formats_of_data_objects(rt: HostRuntime) -> Result<(), Fail> {
             alloc,
             What::DataObject,
             "</xades:DataObjectFormat>",
-            "</xades:DataObjectFormat><xades:DataObjectFormat z=\"\" ObjectReference=\"#s-r1\"/>",
+            "</xades:DataObjectFormat><xades:DataObjectFormat z=\"\" ObjectReference=\"#s-&#114;1\"/>\
+<xades:DataObjectFormat ObjectReference=\"#s-r1\"/>",
             "<xades:DataObjectFormat z"
         )?
     );

@@ -1,50 +1,69 @@
 //! The signed properties of the data objects.
 
-ghost use Rattle.std.specs.Prelude.{◌≡◌, filter, flat_map, not};
+ghost use Rattle.std.specs.Prelude.{◌≡◌, filter, IfOk, not, OnOk};
 ghost use Rattle.document_model.specs.Characters.{is_empty};
 ghost use Rattle.doc_spans.specs.Seen.{Has, document_in};
 ghost use Rattle.signature_elements.specs.Standing.{spot_of, spot_or_none, IsThere};
 ghost use Rattle.signature_model.specs.Parts.{references};
 ghost use Rattle.signature_model.specs.Shape.{data_object_line, data_object_line_of, wants_format};
+ghost use Rattle.signature_shape.specs.DataObjects.{IsFound};
 ghost use Rattle.signature_shape.specs.LineParts.{wanting_faults, without_data_properties};
 ghost use Rattle.signature_shape.specs.Places.{Adds, IsFirst, IsWithin};
 
+use crate::data_objects::DataObjects;
 use crate::formats::add_format_faults;
 use crate::identifying::is_to_key_info;
 use crate::part_lists::{is_typed, references};
-use crate::parts::{signed_data_properties, signed_properties};
+use crate::parts::signed_properties;
 use crate::places::FirstPlace;
 use doc_spans::{Doc, NodeId};
 use signature_elements::{has_attribute, xades};
+use std::alloc::Global;
+use xa_io::OutOfMemory;
 
 /// A Reference other than that to the signed properties, and other than one to KeyInfo, has an Id, and one `DataObjectFormat` points to
 /// it, with a `MimeType` that isn't blank (EN 319 132-1, clause 5.2.4).
-pub fn data_object_line(doc: Doc<'_>, signature: NodeId) -> FirstPlace
+pub fn data_object_line(
+    alloc: Global,
+    doc: Doc<'_>,
+    signature: NodeId,
+) -> Result<FirstPlace, OutOfMemory>
     requires { Has doc signature }
-    ensures { IsFirst doc.entry (data_object_line (document_in doc.entry) (spot_of doc.entry signature)) result }
+    ensures { IfOk result (IsFirst doc.entry (data_object_line (document_in doc.entry) (spot_of doc.entry signature))) }
+{
+    let objects = DataObjects::of(alloc, doc, signature)?;
+    line_of(alloc, doc, &objects)
+}
+
+// The line, by what the signature has.
+fn line_of(alloc: Global, doc: Doc<'_>, objects: &DataObjects) -> Result<FirstPlace, OutOfMemory>
+    requires signature { Has doc objects.now.signature }
+    requires found { IsFound doc objects.now }
+    ensures { IfOk result (IsFirst doc.entry (data_object_line (document_in doc.entry) (spot_of doc.entry objects.now.signature))) }
 {
     let mut place = FirstPlace::none();
-    place.add_with_stray_text(doc, signed_data_properties(doc, signature));
-    add_without_properties(&mut place, doc, signature);
-    add_references(&mut place, doc, signature);
-    place
+    place.add_with_stray_text(doc, objects.properties);
+    add_without_properties(&mut place, doc, objects);
+    add_references(&mut place, alloc, doc, objects)?;
+    Ok(place)
 }
 
 // Whether a Reference wants a format.
-fn wants_format(doc: Doc<'_>, signature: NodeId, reference: NodeId) -> bool
-    requires has { Has doc signature }
+fn wants_format(doc: Doc<'_>, objects: &DataObjects, reference: NodeId) -> bool
+    requires found { IsFound doc objects.now }
     requires there { IsThere doc reference }
-    ensures { result ≡ wants_format (document_in doc.entry) (spot_of doc.entry signature) (spot_of doc.entry reference) }
+    ensures { result ≡ wants_format (document_in doc.entry) (spot_of doc.entry objects.now.signature) (spot_of doc.entry reference) }
 {
-    !is_typed(doc, reference) && !is_to_key_info(doc, signature, reference)
+    !is_typed(doc, reference) && !is_to_key_info(doc, objects.key, reference)
 }
 
-fn wants_any(doc: Doc<'_>, signature: NodeId) -> bool
-    requires { Has doc signature }
-    ensures { result ≡ not (is_empty (filter (wants_format (document_in doc.entry) (spot_of doc.entry signature)) (references (document_in doc.entry) (spot_of doc.entry signature)))) }
+fn wants_any(doc: Doc<'_>, objects: &DataObjects) -> bool
+    requires signature { Has doc objects.now.signature }
+    requires found { IsFound doc objects.now }
+    ensures { result ≡ not (is_empty (filter (wants_format (document_in doc.entry) (spot_of doc.entry objects.now.signature)) (references (document_in doc.entry) (spot_of doc.entry objects.now.signature)))) }
 {
-    for reference in references(doc, signature) {
-        if wants_format(doc, signature, reference) {
+    for reference in references(doc, objects.signature) {
+        if wants_format(doc, objects, reference) {
             return true;
         }
     }
@@ -52,51 +71,72 @@ fn wants_any(doc: Doc<'_>, signature: NodeId) -> bool
 }
 
 // The `SignedProperties`, where a Reference wants a format and there is no element for it.
-fn add_without_properties(place: &mut FirstPlace, doc: Doc<'_>, signature: NodeId)
+fn add_without_properties(place: &mut FirstPlace, doc: Doc<'_>, objects: &DataObjects)
     requires within { IsWithin doc place.old }
-    requires has { Has doc signature }
-    ensures { Adds doc.entry (without_data_properties (document_in doc.entry) (spot_of doc.entry signature)) place.old place.new }
+    requires signature { Has doc objects.now.signature }
+    requires found { IsFound doc objects.now }
+    ensures { Adds doc.entry (without_data_properties (document_in doc.entry) (spot_of doc.entry objects.now.signature)) place.old place.new }
 {
-    if wants_any(doc, signature) {
+    if wants_any(doc, objects) {
         place.add_lacking(
             doc,
             xades("SignedDataObjectProperties"),
-            signed_properties(doc, signature),
+            signed_properties(doc, objects.signature),
         );
     }
 }
 
-fn add_references(place: &mut FirstPlace, doc: Doc<'_>, signature: NodeId)
+fn add_references(
+    place: &mut FirstPlace,
+    alloc: Global,
+    doc: Doc<'_>,
+    objects: &DataObjects,
+) -> Result<(), OutOfMemory>
     requires within { IsWithin doc place.old }
-    requires has { Has doc signature }
-    ensures { Adds doc.entry (wanting_faults (document_in doc.entry) (spot_of doc.entry signature) (references (document_in doc.entry) (spot_of doc.entry signature))) place.old place.new }
+    requires signature { Has doc objects.now.signature }
+    requires found { IsFound doc objects.now }
+    ensures { OnOk result (Adds doc.entry (wanting_faults (document_in doc.entry) (spot_of doc.entry objects.now.signature) (references (document_in doc.entry) (spot_of doc.entry objects.now.signature))) place.old place.new) }
 {
-    for reference in references(doc, signature) {
-        add_reference(place, doc, signature, reference);
+    for reference in references(doc, objects.signature) {
+        add_reference(place, alloc, doc, objects, reference)?;
     }
+    Ok(())
 }
 
-fn add_reference(place: &mut FirstPlace, doc: Doc<'_>, signature: NodeId, reference: NodeId)
+fn add_reference(
+    place: &mut FirstPlace,
+    alloc: Global,
+    doc: Doc<'_>,
+    objects: &DataObjects,
+    reference: NodeId,
+) -> Result<(), OutOfMemory>
     requires within { IsWithin doc place.old }
-    requires has { Has doc signature }
+    requires found { IsFound doc objects.now }
     requires there { IsThere doc reference }
-    ensures { Adds doc.entry (wanting_faults (document_in doc.entry) (spot_of doc.entry signature) (spot_or_none doc.entry (Some reference))) place.old place.new }
+    ensures { OnOk result (Adds doc.entry (wanting_faults (document_in doc.entry) (spot_of doc.entry objects.now.signature) (spot_or_none doc.entry (Some reference))) place.old place.new) }
 {
-    if wants_format(doc, signature, reference) {
-        add_wanting(place, doc, signature, reference);
+    if wants_format(doc, objects, reference) {
+        return add_wanting(place, alloc, doc, objects, reference);
     }
+    Ok(())
 }
 
 // The faults of a Reference that wants a format.
-fn add_wanting(place: &mut FirstPlace, doc: Doc<'_>, signature: NodeId, reference: NodeId)
+fn add_wanting(
+    place: &mut FirstPlace,
+    alloc: Global,
+    doc: Doc<'_>,
+    objects: &DataObjects,
+    reference: NodeId,
+) -> Result<(), OutOfMemory>
     requires within { IsWithin doc place.old }
-    requires has { Has doc signature }
+    requires found { IsFound doc objects.now }
     requires there { IsThere doc reference }
-    ensures { Adds doc.entry (data_object_line_of (document_in doc.entry) (spot_of doc.entry signature) (spot_of doc.entry reference)) place.old place.new }
+    ensures { OnOk result (Adds doc.entry (data_object_line_of (document_in doc.entry) (spot_of doc.entry objects.now.signature) (spot_of doc.entry reference)) place.old place.new) }
 {
     if has_attribute(doc, reference, "Id") {
-        add_format_faults(place, doc, signature, reference);
-    } else {
-        place.add(doc, reference);
+        return add_format_faults(place, alloc, doc, objects, reference);
     }
+    place.add(doc, reference);
+    Ok(())
 }

@@ -6,4 +6,4 @@ use Rattle.reference_chains.proofs.Words.{no_characters}
 use Rattle.reference_chains.proofs.places.place_named.Goals as goal
 
 pub returns-in-None-clause-found : goal.returns-in-None-clause-found
-returns-in-None-clause-found c = sym (ap (λ cs. found (document_in c.args.doc) (place_named cs)) (no_characters c.args.uri.now c.in-None.ensures.chars))
+returns-in-None-clause-found c = λ doc of. sym (ap (λ cs. found (document_in doc) (place_named cs)) (no_characters c.args.uri.now c.in-None.ensures.chars))

@@ -1,6 +1,5 @@
-use Rattle.std.proofs.Common.{Some, None, refl, codes, ap, ◌∙◌}
+use Rattle.std.proofs.Common.{None, refl, codes, ap, ◌∙◌}
 use Rattle.std.specs.Prelude.{option_and_then}
-use Rattle.doc_spans.specs.Pieces.{characters_left}
 use Rattle.signature_model.specs.Vocabulary.{digest_named}
 use Rattle.signature_elements.specs.Standing.{spot_of}
 use Rattle.signature_shape.proofs.Named.{attribute_as}

@@ -1,9 +1,8 @@
-use Rattle.std.proofs.Common.{◌≡◌, Some, None, [], refl, sym, ap, ◌∙◌}
+use Rattle.std.proofs.Common.{◌≡◌, Some, None, [], sym, ap, ◌∙◌}
 use Rattle.std.specs.List.{list_any}
 use Rattle.std.specs.Option.{option_map_or}
 use Rattle.std.specs.Prelude.{option_map, unwrap_or}
 use Rattle.document_model.specs.Scopes.{Tag}
-use Rattle.doc_spans.specs.OpenTags.{tag_in}
 use Rattle.doc_spans.specs.Pieces.{characters_left}
 use Rattle.signature_elements.proofs.Named.{tagged}
 use Rattle.signature_model.specs.Shape.{is_identifying}

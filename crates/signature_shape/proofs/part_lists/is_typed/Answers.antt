@@ -1,4 +1,4 @@
-use Rattle.std.proofs.Common.{false, Some, None, refl, codes, ap, ◌∙◌}
+use Rattle.std.proofs.Common.{false, None, refl, codes, ap, ◌∙◌}
 use Rattle.std.specs.Option.{option_map_or}
 use Rattle.document_model.specs.Characters.{◌is◌}
 use Rattle.doc_spans.specs.Pieces.{characters_left}

@@ -1,16 +1,14 @@
-use Rattle.std.proofs.Common.{ap, not, ◌∷◌, []}
+use Rattle.std.proofs.Common.{ap, ◌∷◌, []}
 use Rattle.std.specs.Prelude.{List}
 use Rattle.std.specs.Prelude.{filter}
 use Rattle.signature_model.specs.Spots.{Spot, paths}
 use Rattle.signature_model.specs.Parts.{is_typed}
-use Rattle.doc_spans.specs.Seen.{document_in}
 use Rattle.signature_shape.specs.ListsLeft.{named_doc, named_left}
 use Rattle.signature_elements.specs.Standing.{spot_of}
 use Rattle.signature_elements.proofs.Laws.{next_spot}
 use Rattle.signature_shape.proofs.Adding.{adding_goes_on, adding_ends, adds_tested}
 use Rattle.signature_shape.proofs.AnyOrder.{alike_back, adds_alike}
-use Rattle.signature_shape.proofs.Spread.{Each, one_each, each_tested, each_flat, each_joined, each_of, spread_filter, spread_flat}
-use Rattle.signature_shape.proofs.LineEach.{each_alone, each_key_data, each_stamp, each_material, each_values, each_transform, each_transforms, each_wanting}
+use Rattle.signature_shape.proofs.Spread.{one_each, each_tested}
 use Rattle.signature_shape.proofs.typed.add_typed.Goals as goal
 
 pub is_typed-requires : goal.is_typed-requires

@@ -3,8 +3,6 @@ use Rattle.std.specs.Prelude.{List}
 use Rattle.std.specs.Prelude.{filter}
 use Rattle.signature_model.specs.Spots.{Spot, paths}
 use Rattle.signature_model.specs.Parts.{is_typed}
-use Rattle.signature_elements.specs.Standing.{spot_of}
-use Rattle.doc_spans.specs.Seen.{document_in}
 use Rattle.signature_shape.specs.ListsLeft.{named_doc, named_left}
 use Rattle.signature_shape.proofs.Adding.{Adding}
 use Rattle.signature_shape.proofs.Spread.{one_each}

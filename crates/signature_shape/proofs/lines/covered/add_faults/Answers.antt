@@ -1,4 +1,4 @@
-use Rattle.std.proofs.Common.{◌≡◌, Bool, List, refl, sym, ◌∙◌, ap, codes, [], ◌∷◌, ◌++◌, append_assoc}
+use Rattle.std.proofs.Common.{◌≡◌, Bool, List, refl, sym, ◌∙◌, ap, codes, [], ◌∷◌, ◌++◌}
 use Rattle.std.proofs.lemmas.List.{append-nil}
 use Rattle.std.specs.Prelude.{if◌then◌else◌, drop, filter, flat_map, not}
 use Rattle.document_model.specs.Characters.{is_empty}
@@ -9,7 +9,6 @@ use Rattle.signature_model.specs.Shape.{is_reaching_out, points_to_one}
 use Rattle.signature_model.specs.Spots.{Spot, first, paths}
 use Rattle.signature_model.specs.Vocabulary.{ds}
 use Rattle.signature_elements.specs.Standing.{spot_of}
-use Rattle.signature_shape.specs.ListsLeft.{named_left}
 use Rattle.signature_shape.proofs.Adding.{adds_as, adds_more, adds_tested}
 use Rattle.signature_shape.proofs.Named.{ds_name, part_in}
 use Rattle.signature_shape.proofs.FromNone.{adds_part}

@@ -1,6 +1,5 @@
 use Rattle.std.proofs.Common.{◌≡◌}
 use Rattle.std.specs.Prelude.{List}
-use Rattle.std.proofs.lemmas.List.{append-nil}
 use Rattle.std.specs.Prelude.{filter, flat_map}
 use Rattle.signature_model.specs.Spots.{Spot, elements_in, paths}
 use Rattle.signature_model.specs.Shape.{is_reaching_out}

@@ -1,21 +1,12 @@
-use Rattle.std.proofs.Common.{◌≡◌, List, refl, sym, ◌∙◌, ap, codes, [], ◌∷◌, ◌++◌, append_assoc}
+use Rattle.std.proofs.Common.{IfOk, subst}
 use Rattle.doc_spans.specs.Seen.{document_in}
-use Rattle.signature_model.specs.Holding.{with_stray_text}
-use Rattle.signature_model.specs.Parts.{references}
-use Rattle.signature_model.specs.Shape.{data_object_line, signed_data_properties}
+use Rattle.doc_spans.specs.declared.documents.NodeId.{NodeId}
+use Rattle.signature_model.specs.Shape.{data_object_line}
 use Rattle.signature_elements.specs.Standing.{spot_of}
-use Rattle.signature_shape.specs.LineParts.{wanting_faults, without_data_properties}
-use Rattle.signature_shape.proofs.Adding.{adds_more}
-use Rattle.signature_shape.proofs.AnyOrder.{alike_as}
-use Rattle.signature_shape.proofs.FromNone.{first_of_all, adds_part}
+use Rattle.signature_shape.specs.Places.{IsFirst}
 use Rattle.signature_shape.proofs.lines.data_object.data_object_line.Goals as goal
 
 pub returns : goal.returns
 returns c =
-    let document = document_in c.args.doc in
-    let signature = spot_of c.args.doc c.args.signature in
-    first_of_all c.args.doc _ (data_object_line document signature) _ _ c.none-place.ensures (alike_as _ _ refl)
-    (adds_more c.args.doc _ (wanting_faults document signature (references document signature)) _ _ _
-    (adds_more c.args.doc (with_stray_text document (signed_data_properties document signature)) (without_data_properties document signature) _ _ _
-    (adds_part c.args.doc (with_stray_text document) _ _ _ _ c.signed_data_properties.ensures.spot c.add_with_stray_text.ensures)
-    c.add_without_properties.ensures) c.add_references.ensures)
+    let P : NodeId → Type 0 = λ node. IfOk c.line_of.result (IsFirst c.args.doc (data_object_line (document_in c.args.doc) (spot_of c.args.doc node))) in
+    subst P c.in_ok-objects.ensures.signature c.line_of.ensures

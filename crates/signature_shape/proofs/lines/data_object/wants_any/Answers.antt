@@ -12,20 +12,20 @@ use Rattle.signature_shape.proofs.lines.data_object.wants_any.Goals as goal
 pub wants_format-requires : goal.wants_format-requires
 wants_format-requires c =
     let next = next_spot named_doc named_left c.args.doc c.loop-reference.reference-iterator c.next.new.self c.in-Some.reference c.loop-reference.invariant.2 c.in-Some.ensures.steps in
-    record { has = c.requires; there = next.there }
+    record { found = c.requires.found; there = next.there }
 
 pub loop-reference-preserved : goal.loop-reference-preserved
 loop-reference-preserved c =
     let next = next_spot named_doc named_left c.args.doc c.loop-reference.reference-iterator c.next.new.self c.in-Some.reference c.loop-reference.invariant.2 c.in-Some.ensures.steps in
     let test = sym c.wants_format.ensures ∙ c.if-wants_format.false in
-    (tt, tt, next.doc_is, one_passed (wants_format (document_in c.args.doc) (spot_of c.args.doc c.args.signature)) _ _ _ _ next.spots test c.loop-reference.invariant.3)
+    (tt, tt, next.doc_is, one_passed (wants_format (document_in c.args.doc) (spot_of c.args.doc c.args.objects.now.signature)) _ _ _ _ next.spots test c.loop-reference.invariant.3)
 
 pub returns-then-wants_format : goal.returns-then-wants_format
 returns-then-wants_format c =
     let next = next_spot named_doc named_left c.args.doc c.loop-reference.reference-iterator c.next.new.self c.in-Some.reference c.loop-reference.invariant.2 c.in-Some.ensures.steps in
     let test = sym c.wants_format.ensures ∙ c.if-wants_format.true in
-    ap (λ (spots : List Spot). not (is_empty spots)) (one_kept (wants_format (document_in c.args.doc) (spot_of c.args.doc c.args.signature)) _ _ _ _ next.spots test c.loop-reference.invariant.3)
+    ap (λ (spots : List Spot). not (is_empty spots)) (one_kept (wants_format (document_in c.args.doc) (spot_of c.args.doc c.args.objects.now.signature)) _ _ _ _ next.spots test c.loop-reference.invariant.3)
 
 pub returns : goal.returns
 returns c =
-    sym (ap (λ (spots : List Spot). not (is_empty spots)) (none_kept (wants_format (document_in c.args.doc) (spot_of c.args.doc c.args.signature)) _ _ c.in-None.ensures.steps.1.0 c.loop-reference.invariant.3))
+    sym (ap (λ (spots : List Spot). not (is_empty spots)) (none_kept (wants_format (document_in c.args.doc) (spot_of c.args.doc c.args.objects.now.signature)) _ _ c.in-None.ensures.steps.1.0 c.loop-reference.invariant.3))

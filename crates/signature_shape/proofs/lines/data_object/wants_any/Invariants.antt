@@ -11,5 +11,5 @@ abbrev pub invariant-loop-reference : goal.invariant-loop-reference
 invariant-loop-reference l =
     (goal.iterator-loop-reference).can_next l.reference-iterator × (goal.iterator-loop-reference).is_finite l.reference-iterator
     × (named_doc l.reference-iterator ≡ l.doc)
-    × (wanting (document_in l.doc) (spot_of l.doc l.fn.signature) (named_left l.reference-iterator)
-    ≡ wanting (document_in l.doc) (spot_of l.doc l.fn.signature) (references (document_in l.doc) (spot_of l.doc l.fn.signature)))
+    × (wanting (document_in l.doc) (spot_of l.doc l.fn.objects.signature) (named_left l.reference-iterator)
+    ≡ wanting (document_in l.doc) (spot_of l.doc l.fn.objects.signature) (references (document_in l.doc) (spot_of l.doc l.fn.objects.signature)))

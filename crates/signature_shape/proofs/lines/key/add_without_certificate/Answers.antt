@@ -1,4 +1,4 @@
-use Rattle.std.proofs.Common.{Bool, true, false, not, cond, refl, sym, ◌∙◌, ap, ◌≡◌, codes, []}
+use Rattle.std.proofs.Common.{Bool, true, false, not, cond, refl, sym, ◌∙◌, ap, codes, []}
 use Rattle.document_model.specs.Characters.{is_empty}
 use Rattle.doc_spans.specs.Seen.{document_in}
 use Rattle.signature_elements.specs.Standing.{spot_of}

@@ -1,4 +1,4 @@
-use Rattle.std.proofs.Common.{refl, codes, ap, ◌∙◌}
+use Rattle.std.proofs.Common.{refl, codes, ◌∙◌}
 use Rattle.signature_elements.specs.Standing.{spot_of}
 use Rattle.signature_model.specs.Shape.{points_to}
 use Rattle.signature_shape.proofs.Named.{attribute_as}

@@ -3,7 +3,6 @@ use Rattle.std.specs.Prelude.{flat_map}
 use Rattle.signature_model.specs.Shape.{reference_line_of}
 use Rattle.signature_shape.proofs.Adding.{adding_goes_on, adding_ends}
 use Rattle.doc_spans.specs.Seen.{document_in}
-use Rattle.signature_elements.specs.Standing.{spot_of}
 use Rattle.signature_elements.proofs.Laws.{next_spot}
 use Rattle.signature_shape.specs.ListsLeft.{named_doc, named_left}
 use Rattle.signature_shape.proofs.lines.reference.add_references.Goals as goal

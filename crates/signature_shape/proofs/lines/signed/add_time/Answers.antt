@@ -1,4 +1,4 @@
-use Rattle.std.proofs.Common.{◌≡◌, List, refl, sym, ◌∙◌, ap, codes, [], ◌∷◌, ◌++◌, append_assoc}
+use Rattle.std.proofs.Common.{refl, codes}
 use Rattle.doc_spans.specs.Seen.{document_in}
 use Rattle.signature_model.specs.Holding.{not_one, without_text}
 use Rattle.signature_model.specs.Vocabulary.{xades}

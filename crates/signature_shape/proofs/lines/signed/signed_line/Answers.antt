@@ -1,4 +1,4 @@
-use Rattle.std.proofs.Common.{◌≡◌, List, refl, sym, ◌∙◌, ap, codes, [], ◌∷◌, ◌++◌, append_assoc}
+use Rattle.std.proofs.Common.{◌≡◌, List, refl, sym, ◌∙◌, ap, codes, ◌++◌, append_assoc}
 use Rattle.document_model.specs.Tree.{Path}
 use Rattle.doc_spans.specs.Seen.{document_in}
 use Rattle.signature_model.specs.Holding.{lacking, not_one, with_stray_text, without_octets, without_text}

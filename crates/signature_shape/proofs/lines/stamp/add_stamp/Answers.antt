@@ -1,4 +1,4 @@
-use Rattle.std.proofs.Common.{◌≡◌, List, refl, sym, ◌∙◌, ap, codes, [], ◌∷◌, ◌++◌, append_assoc}
+use Rattle.std.proofs.Common.{List, refl, sym, ◌∙◌, ap, codes, [], ◌∷◌}
 use Rattle.std.proofs.lemmas.List.{append-nil}
 use Rattle.std.specs.Prelude.{filter, flat_map, not}
 use Rattle.doc_spans.specs.Seen.{document_in}

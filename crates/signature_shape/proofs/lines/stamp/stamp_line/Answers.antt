@@ -1,15 +1,15 @@
-use Rattle.std.proofs.Common.{ap, not, ◌∷◌, []}
+use Rattle.std.proofs.Common.{ap, ◌∷◌, []}
 use Rattle.signature_shape.specs.LineParts.{stamp_faults}
 use Rattle.signature_model.specs.Parts.{stamps}
 use Rattle.doc_spans.specs.Seen.{document_in}
 use Rattle.signature_shape.specs.StampsLeft.{stamps_doc, stamps_left}
 use Rattle.signature_elements.specs.Standing.{spot_of}
 use Rattle.signature_elements.proofs.Laws.{next_spot}
-use Rattle.signature_shape.proofs.Adding.{adding_goes_on, adding_ends, adds_tested}
+use Rattle.signature_shape.proofs.Adding.{adding_goes_on, adding_ends}
 use Rattle.signature_shape.proofs.AnyOrder.{alike_back}
-use Rattle.signature_shape.proofs.Spread.{Each, one_each, each_tested, each_flat, each_joined, each_of, spread_filter, spread_flat}
+use Rattle.signature_shape.proofs.Spread.{one_each}
 use Rattle.signature_shape.proofs.FromNone.{first_of_all}
-use Rattle.signature_shape.proofs.LineEach.{each_alone, each_key_data, each_stamp, each_material, each_values, each_transform, each_transforms, each_wanting}
+use Rattle.signature_shape.proofs.LineEach.{each_stamp}
 use Rattle.signature_shape.proofs.lines.stamp.stamp_line.Goals as goal
 
 pub add_stamp-requires : goal.add_stamp-requires

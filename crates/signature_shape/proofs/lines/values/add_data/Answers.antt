@@ -1,4 +1,4 @@
-use Rattle.std.proofs.Common.{◌≡◌, Bool, true, false, List, cond, refl, sym, ◌∙◌, ap, codes, [], ◌∷◌, ◌++◌}
+use Rattle.std.proofs.Common.{◌≡◌, Bool, true, false, List, cond, refl, sym, ◌∙◌, ap, codes, [], ◌∷◌}
 use Rattle.std.proofs.lemmas.List.{append-nil}
 use Rattle.std.specs.Prelude.{map}
 use Rattle.document_model.specs.Tree.{Nodes}

@@ -1,4 +1,4 @@
-use Rattle.std.proofs.Common.{Bool, cond, refl, sym, ◌∙◌, ap, codes, [], ◌∷◌, ◌++◌}
+use Rattle.std.proofs.Common.{Bool, cond, sym, ◌∙◌, ap, codes, []}
 use Rattle.doc_spans.specs.Seen.{document_in}
 use Rattle.signature_elements.specs.Standing.{spot_of}
 use Rattle.signature_model.specs.Holding.{with_stray_text}

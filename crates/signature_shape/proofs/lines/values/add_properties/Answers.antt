@@ -1,14 +1,14 @@
-use Rattle.std.proofs.Common.{ap, not, ◌∷◌, []}
+use Rattle.std.proofs.Common.{ap, ◌∷◌, []}
 use Rattle.signature_shape.specs.LineParts.{material_faults}
 use Rattle.signature_model.specs.Parts.{properties}
 use Rattle.doc_spans.specs.Seen.{document_in}
 use Rattle.signature_shape.specs.ListsLeft.{all_doc, all_left}
 use Rattle.signature_elements.specs.Standing.{spot_of}
 use Rattle.signature_elements.proofs.Laws.{next_spot}
-use Rattle.signature_shape.proofs.Adding.{adding_goes_on, adding_ends, adds_tested}
+use Rattle.signature_shape.proofs.Adding.{adding_goes_on, adding_ends}
 use Rattle.signature_shape.proofs.AnyOrder.{alike_back, adds_alike}
-use Rattle.signature_shape.proofs.Spread.{Each, one_each, each_tested, each_flat, each_joined, each_of, spread_filter, spread_flat}
-use Rattle.signature_shape.proofs.LineEach.{each_alone, each_key_data, each_stamp, each_material, each_values, each_transform, each_transforms, each_wanting}
+use Rattle.signature_shape.proofs.Spread.{one_each}
+use Rattle.signature_shape.proofs.LineEach.{each_material}
 use Rattle.signature_shape.proofs.lines.values.add_properties.Goals as goal
 
 pub add_property-requires : goal.add_property-requires

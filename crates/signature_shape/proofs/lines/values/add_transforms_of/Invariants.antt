@@ -1,5 +1,4 @@
 use Rattle.std.proofs.Common.{◌≡◌}
-use Rattle.std.proofs.lemmas.List.{append-nil}
 use Rattle.signature_shape.specs.LineParts.{transforms_faults}
 use Rattle.signature_model.specs.Parts.{transform_lists}
 use Rattle.signature_elements.specs.Standing.{spot_of}

@@ -3,7 +3,7 @@ use Rattle.doc_spans.specs.Seen.{path_in}
 use Rattle.signature_elements.specs.NamedLeft.{called_doc, called_left}
 use Rattle.signature_elements.proofs.Laws.{next_spot}
 use Rattle.signature_model.specs.Spots.{paths}
-use Rattle.signature_shape.proofs.Adding.{adding_starts, adding_goes_on, adding_ends}
+use Rattle.signature_shape.proofs.Adding.{adding_goes_on, adding_ends}
 use Rattle.signature_shape.proofs.places.FirstPlace.add_all.Goals as goal
 
 pub add-requires : goal.add-requires

@@ -1,6 +1,5 @@
 use Rattle.std.proofs.Common.{◌≡◌}
 use Rattle.signature_model.specs.Holding.{without_value}
-use Rattle.signature_model.specs.Spots.{is_text_alone, held_at}
 use Rattle.doc_spans.specs.Seen.{document_in}
 use Rattle.signature_elements.specs.NamedLeft.{called_doc, called_left}
 use Rattle.signature_shape.proofs.Adding.{Adding}
