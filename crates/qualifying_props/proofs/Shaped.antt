@@ -12,7 +12,7 @@ use Rattle.signature_elements.specs.Standing.{spot_or_none}
 use Rattle.signature_model.specs.Vocabulary.{ds, xades, DigestKind}
 use Rattle.signature_model.specs.Spots.{Spot, is_called, attribute, called, called_in, elements_in, first, paths}
 use Rattle.signature_model.specs.Parts.{signed_info, value, key_info, method, host, objects, is_qualifying, qualifying_objects, qualifying, unsigned, unsigned_signature, signed_properties, signed_signature_properties, signing_certificate_property, signing_time, certificate_digest, digest_methods, digest_values, digest_kind}
-use Rattle.signature_model.specs.Faults.{What, ShapeFault, first_fault, of_line}
+use Rattle.signature_model.specs.Faults.{ShapeFault, first_fault, of_line}
 use Rattle.signature_model.specs.Faults as words
 use Rattle.signature_model.specs.Holding.{Slot, one, at_most_one, any_number, one_or_more, lacks_one, first_misfit, misfits, lacking, further, not_one, without_attribute, with_stray_text, without_octets, without_text}
 use Rattle.signature_model.specs.Shape.{or_first, points_to, id_of, parts_line, info_line, form_line, method_line, reference_line, qualifying_line, properties_line, covered_line, signed_line, data_object_line, key_line, value_line, stamp_line, values_line, shape_faults}

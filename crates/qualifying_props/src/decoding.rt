@@ -38,8 +38,9 @@ fn push_piece(decoder: &mut Decoder, piece: Piece<'_>) -> Result<(), OutOfMemory
     }
 }
 
-// The octets of an element that may not exist: none where it doesn't, or where its text isn't base64.
-pub(crate) fn octets_or_none(
+/// The octets that the base64 text of an element spells, where white space is skipped: none where there is no element, or where its text
+/// isn't base64.
+pub fn octets_or_none(
     alloc: Global,
     doc: Doc<'_>,
     node: Option<NodeId>,

@@ -17,10 +17,12 @@ mod read;
 mod signer;
 mod values;
 
+pub use decoding::octets_or_none;
 pub use faults::PartFault;
 pub use parts::SignatureParts;
 pub use read::read_signature;
 pub use signature_shape::{PropertyKind, What};
+pub use signer::has_digest;
 
 #[cfg(test)]
 mod tests;

@@ -24,12 +24,13 @@ use signature_elements::{SignatureCount, counted};
 use signature_shape::first_fault;
 use std::alloc::Global;
 
-fn judge_shape(doc: Doc<'_>, signature: NodeId) -> Result<(), PartFault>
+fn judge_shape(alloc: Global, doc: Doc<'_>, signature: NodeId) -> Result<(), PartFault>
     requires { IsThere doc signature }
     ensures ok { OnOk result (IsShaped (document_in doc.entry) (spot_of doc.entry signature)) }
     ensures err { IfErr result (λ fault. (next : Answer) → IsFault doc.entry (by_shape next (first_fault (shape_faults (document_in doc.entry) (spot_of doc.entry signature)))) fault) }
 {
-    match first_fault(doc, signature) {
+    let found = first_fault(alloc, doc, signature)?;
+    match found {
         Some(fault) => Err(PartFault::Shape {
             at: beginning(doc, fault.node),
             what: fault.what,
@@ -59,7 +60,7 @@ fn read_parts(alloc: Global, doc: Doc<'_>, signature: NodeId) -> Result<Signatur
     ensures read { OnOk result (model.read_parts is_whole (document_in doc.entry) (spot_of doc.entry signature) ≡ Read (spot_of doc.entry signature)) }
     ensures err { IfErr result (IsFault doc.entry (model.read_parts is_whole (document_in doc.entry) (spot_of doc.entry signature))) }
 {
-    judge_shape(doc, signature)?;
+    judge_shape(alloc, doc, signature)?;
     judge_includes(doc, signature)?;
     collect(alloc, doc, signature)
 }

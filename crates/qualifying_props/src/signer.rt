@@ -1,4 +1,4 @@
-//! The signing certificate (EN 319 132-1, clause 5.2.2).
+//! Digests of octets, and the signing certificate (EN 319 132-1, clause 5.2.2).
 
 ghost use Rattle.std.specs.Prelude.{◌≡◌};
 ghost use Rattle.std.specs.List.{position};
@@ -7,8 +7,8 @@ ghost use Rattle.qualifying_props.specs.Digests.{has_digest};
 use algorithms::{DigestKind, Hasher};
 use xa_io::{Octets, Octs};
 
-// Whether octets have a digest.
-fn has_digest(kind: DigestKind, digest: &[u8], octets: &[u8]) -> bool
+/// Whether octets have a digest of a kind.
+pub fn has_digest(kind: DigestKind, digest: &[u8], octets: &[u8]) -> bool
     ensures { result ≡ has_digest kind digest.now octets.now }
 {
     let mut hasher = Hasher::new(kind);
