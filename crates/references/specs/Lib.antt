@@ -1,0 +1,5 @@
+pub mod Shown
+pub mod RefsOf
+pub mod Found
+pub mod Answers
+pub mod Digests
