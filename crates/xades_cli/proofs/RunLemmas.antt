@@ -5,10 +5,13 @@ use Rattle.xa_io.specs.Causes.{Rose}
 use Rattle.xa_io.specs.Shelf.{Files}
 use Rattle.word_patterns.specs.Grammar.{IsFaultyWord}
 use Rattle.xades_cli.specs.Reading.{Counts}
-use Rattle.xades_cli.specs.Words.{Asked, patterns, IsCommand}
+use Rattle.xades_cli.specs.Words.{patterns, IsCommand}
+use Rattle.xades_cli.specs.Asked.{Asked}
 use Rattle.xades_cli.specs.Wanted.{Want, Fetched, Lacks, IsLong, Found, fetch}
 use Rattle.xades_cli.specs.Causes.{HasCause, HasReadCause}
-use Rattle.xades_cli.specs.Outcomes.{Outcome, Writes, RefusesDocument, RefusesItem, wants_of, outcome_of}
+use Rattle.xades_cli.specs.Outcomes.{Outcome, Writes, RefusesDocument, RefusesItem}
+use Rattle.xades_cli.specs.Commands.{wants_of, outcome_of}
+use Rattle.xades_cli.specs.Computed.{IsRefusal}
 use Rattle.xades_cli.specs.Answers.{IsByWords, Follows, IsRight, IsSettled, Completes, IsSized}
 use Rattle.doc_spans.specs.declared.faults.DocFault.{DocFault}
 use Rattle.xades_cli.specs.declared.code.Code.{Code}
@@ -19,6 +22,48 @@ use Rattle.word_patterns.proofs.GrammarLemmas.{faulty_don't_fit}
 -- a faulty word and the words of a command exclude each other
 pub no_command : (words : List (List ℕ)) (number : ℕ) → IsFaultyWord patterns words number → IsCommand words → ⊥
 no_command words number found command = faulty_don't_fit patterns words number found command
+
+-- the words of a command don't end in the status for a faulty word
+pub by_command : (words : List (List ℕ)) (status : Status) → IsCommand words → ((index : ℕ) → status ≡ BadWords index → ⊥) → IsByWords words status
+by_command words (BadWords index) command read = absurd (read index refl)
+by_command words OutOfMemory command read = tt
+by_command words Done command read = command
+by_command words (NoSuchFile name) command read = command
+by_command words (ReadFault name) command read = command
+by_command words WriteFault command read = command
+by_command words (TooLong name got) command read = command
+by_command words (BadDocument why) command read = command
+by_command words (Refused item code) command read = command
+
+document_refused : (outcome : Outcome) (why : DocFault) (before : Option (List ℕ)) → IsRefusal outcome (BadDocument why) → Follows outcome (BadDocument why) before before
+document_refused (Writes bytes) why before refusal = absurd refusal
+document_refused (RefusesDocument document) why before refusal = refusal
+document_refused (RefusesItem item code) why before refusal = absurd refusal
+
+item_refused : (outcome : Outcome) (item : ℕ) (code : Code) (before : Option (List ℕ)) → IsRefusal outcome (Refused item code) → Follows outcome (Refused item code) before before
+item_refused (Writes bytes) item code before refusal = absurd refusal
+item_refused (RefusesDocument document) item code before refusal = absurd refusal
+item_refused (RefusesItem number why) item code before refusal = refusal
+
+-- a refusal is right where the files are found, and nothing is given
+pub refused_right : (asked : Asked) (files : Files) (contents : List (List ℕ)) (status : Status) (before : Option (List ℕ)) → fetch files [] (wants_of asked) ≡ Found contents → IsRefusal (outcome_of asked contents) status → IsRight asked files status before before
+refused_right asked files contents OutOfMemory before found refusal = tt
+refused_right asked files contents (BadDocument why) before found refusal = record {
+  contents = contents;
+  found = found;
+  follows = document_refused (outcome_of asked contents) why before refusal;
+}
+refused_right asked files contents (Refused item code) before found refusal = record {
+  contents = contents;
+  found = found;
+  follows = item_refused (outcome_of asked contents) item code before refusal;
+}
+refused_right asked files contents Done before found refusal = absurd refusal
+refused_right asked files contents (BadWords index) before found refusal = absurd refusal
+refused_right asked files contents (NoSuchFile name) before found refusal = absurd refusal
+refused_right asked files contents (ReadFault name) before found refusal = absurd refusal
+refused_right asked files contents WriteFault before found refusal = absurd refusal
+refused_right asked files contents (TooLong name got) before found refusal = absurd refusal
 
 -- a fault of the reading tells of no place in a document
 pub read_sized : (wants : List Want) (before now : Counts) (status : Status) (fetched : Fetched) (size : ℕ) → HasReadCause wants before now status → IsSized status fetched size

@@ -1,16 +1,14 @@
 -- What the words of the command line are, and what a run that stops at them owes.
-use Rattle.std.proofs.Common.{◌≡◌, ◌≤◌, ℕ, List, [], ◌∷◌, refl, sym, subst, arith}
-use Rattle.std.specs.Prelude.{Option, None, Some, codes, true}
+use Rattle.std.proofs.Common.{◌≡◌, ℕ, List, refl, arith}
+use Rattle.std.specs.Prelude.{Option, codes, true}
 use Rattle.std.specs.Str.{is_utf8, chars}
 use Rattle.std.specs.Char.{encode_utf8}
 use Rattle.word_patterns.specs.TextForms.{are_prefixes}
 use Rattle.xa_io.specs.Shelf.{Files}
-use Rattle.word_patterns.specs.Grammar.{IsFaultyWord}
 use Rattle.word_patterns.specs.Good.{AllGood, AreFew}
-use Rattle.xades_cli.specs.Words.{Asked, patterns, IsCommand, IsWordFault}
+use Rattle.xades_cli.specs.Words.{patterns, IsCommand, IsWordFault}
+use Rattle.xades_cli.specs.Asked.{Asked}
 use Rattle.xades_cli.specs.Answers.{IsRight}
-use Rattle.xades_cli.specs.declared.code.Code.{Code}
-use Rattle.doc_spans.specs.declared.faults.DocFault.{DocFault}
 use Rattle.xades_cli.specs.declared.status.Status.{Status}
 use Rattle.xades_cli.specs.declared.status.Status.TheVariants.{Done, BadWords, NoSuchFile, ReadFault, WriteFault, TooLong, BadDocument, Refused, OutOfMemory}
 use Rattle.xades_cli.proofs.RunLemmas.{no_command}
@@ -46,12 +44,21 @@ all_good = (
         ),
       ),
     ),
-    tt,
+    (
+      (
+        record { example = codes "octets"; is_example = refl; ordered = omega arith },
+        (
+          record { example = codes "doc=a"; is_example = refl; ordered = omega arith },
+          (record { example = codes "for=signature"; is_example = refl; ordered = omega arith }, (record { example = codes "ext=a"; is_example = refl; ordered = omega arith }, tt)),
+        ),
+      ),
+      tt,
+    ),
   ),
 )
 
 pub all_few : AreFew 1 patterns
-all_few = (omega arith, (omega arith, tt))
+all_few = (omega arith, (omega arith, (omega arith, tt)))
 
 -- A run that stops at the words.
 

@@ -3,10 +3,12 @@ use Rattle.std.specs.Prelude.{◌≡◌, ◌⊎◌, ℕ, List, [], Option}
 use Rattle.xa_io.specs.Sink.{appended, GaveFirst}
 use Rattle.xa_io.specs.Shelf.{Files}
 use Rattle.word_patterns.specs.Grammar.{IsFaultyWord}
-use Rattle.xades_cli.specs.Words.{Asked, patterns, IsCommand}
+use Rattle.xades_cli.specs.Words.{patterns, IsCommand}
+use Rattle.xades_cli.specs.Asked.{Asked}
 use Rattle.xades_cli.specs.Wanted.{Fetched, Found, fetch, document_size}
 use Rattle.xades_cli.specs.Causes.{IsFaultOf}
-use Rattle.xades_cli.specs.Outcomes.{Outcome, Writes, RefusesDocument, RefusesItem, wants_of, outcome_of, IsFaultyDocument}
+use Rattle.xades_cli.specs.Outcomes.{Outcome, Writes, RefusesDocument, RefusesItem, IsFaultyDocument}
+use Rattle.xades_cli.specs.Commands.{wants_of, outcome_of}
 use Rattle.xades_cli.specs.declared.status.Status.{Status}
 use Rattle.xades_cli.specs.declared.status.Status.TheVariants.{Done, BadWords, NoSuchFile, ReadFault, WriteFault, TooLong, BadDocument, Refused, OutOfMemory}
 

@@ -1,8 +1,11 @@
 pub mod Words
+pub mod Asked
 pub mod Reading
 pub mod Wanted
 pub mod Causes
 pub mod Outcomes
+pub mod Signing
+pub mod Commands
 pub mod Computed
 pub mod Answers
 pub mod Lines

@@ -3,13 +3,13 @@ use Rattle.std.specs.Prelude.{◌≡◌, ◌⊎◌, ℕ, List, [], ◌++◌, Opt
 use Rattle.xa_io.specs.Shelf.{Files}
 use Rattle.xa_io.specs.Sink.{appended, GaveFirst}
 use Rattle.xa_io.specs.Causes.{Rose}
-use Rattle.xades_cli.specs.Words.{Asked}
+use Rattle.xades_cli.specs.Asked.{Asked}
 use Rattle.xades_cli.specs.Wanted.{fetch}
-use Rattle.xades_cli.specs.Outcomes.{wants_of}
+use Rattle.xades_cli.specs.Commands.{wants_of}
 use Rattle.xades_cli.specs.Answers.{IsSized}
 use Rattle.doc_spans.specs.Faults.{fault_number, fault_place}
 use Rattle.xades_cli.specs.declared.code.Code.{Code}
-use Rattle.xades_cli.specs.declared.code.Code.TheVariants.{TargetMissing, TargetTwice}
+use Rattle.xades_cli.specs.declared.code.Code.TheVariants as refusals
 use Rattle.xades_cli.specs.declared.status.Status.{Status}
 use Rattle.xades_cli.specs.declared.status.Status.TheVariants.{Done, BadWords, NoSuchFile, ReadFault, WriteFault, TooLong, BadDocument, Refused, OutOfMemory}
 
@@ -35,8 +35,19 @@ fault_line number place = numbers_line (codes "xades: document fault ") number (
 
 -- the number of a code
 abbrev pub code_number : Code → ℕ
-code_number (TargetMissing k) = 6
-code_number (TargetTwice k) = 7
+code_number refusals.NoSignature = 1
+code_number refusals.Several = 2
+code_number (refusals.Shape at what) = 3
+code_number (refusals.Include at) = 4
+code_number (refusals.PropertyData at) = 5
+code_number (refusals.TargetMissing k) = 6
+code_number (refusals.TargetTwice k) = 7
+code_number (refusals.Chain k) = 8
+code_number (refusals.DigestName k) = 9
+code_number (refusals.External k) = 10
+code_number (refusals.Base64 k at) = 11
+code_number (refusals.SelfCover k) = 12
+code_number refusals.AlreadySigned = 13
 
 -- the line for an item that is refused
 abbrev pub refusal_line : ℕ → ℕ → List ℕ

@@ -1,13 +1,11 @@
--- What a command comes to by the bytes of its files.
-use Rattle.std.specs.Prelude.{ℕ, List, [], ◌∷◌, Option, None, Some}
+-- What commands come to, and what `canon` does.
+use Rattle.std.specs.Prelude.{ℕ, List, Option, None, Some}
 use Rattle.std.specs.Str.{chars}
 use Rattle.document_model.specs.Documents
 use Rattle.document_model.specs.Documents.{fault, document_of}
 use Rattle.document_model.specs.Tree.{Nodes}
 use Rattle.document_model.specs.NodeSets.{Target, Missing, Single, Double, target_of, whole, subtree}
 use Rattle.document_model.specs.Canonical.{Form, octets_of}
-use Rattle.xades_cli.specs.Words.{Asked, AskedCanon}
-use Rattle.xades_cli.specs.Wanted.{Want}
 use Rattle.xades_cli.specs.declared.code.Code.{Code}
 use Rattle.xades_cli.specs.declared.code.Code.TheVariants.{TargetMissing, TargetTwice}
 use Rattle.doc_spans.specs.Faults.{IsFirstFault}
@@ -19,14 +17,6 @@ pub data Outcome : Type 0 where
   Writes : (bytes : List ℕ) → Outcome
   RefusesDocument : (document : List ℕ) → Outcome
   RefusesItem : (item : ℕ) (code : Code) → Outcome
-
--- the most bytes of a document
-abbrev pub document_limit : ℕ
-document_limit = 16777216
-
--- the files that a command wants, in the order of its words
-abbrev pub wants_of : Asked → List Want
-wants_of (AskedCanon document form id) = record { name = document; limit = document_limit } ∷ []
 
 -- the canonical text of the element that an identifier names, where it names just one; a command that has no items refuses as item 0
 abbrev pub target_outcome : Form → Target → Nodes → Outcome
@@ -46,11 +36,6 @@ canon_by None form id document = text_outcome form id (document_of document)
 
 abbrev pub canon_outcome : Form → Option (List ℕ) → List ℕ → Outcome
 canon_outcome form id document = canon_by (fault document) form id document
-
--- what a command comes to by the bytes of its files
-abbrev pub outcome_of : Asked → List (List ℕ) → Outcome
-outcome_of (AskedCanon name form id) (document ∷ others) = canon_outcome form id document
-outcome_of (AskedCanon name form id) [] = RefusesDocument []
 
 -- the fault tells why a document is refused, and isn't want of memory
 abbrev pub IsFaultyDocument : List ℕ → DocFault → Type 0

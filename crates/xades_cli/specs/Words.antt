@@ -1,17 +1,9 @@
--- The words of the program's commands, and what they ask.
-use Rattle.std.specs.Prelude.{◌≡◌, ℕ, List, [], ◌∷◌, Bool, map, codes, Option, None, Some, if◌then◌else◌}
-use Rattle.std.specs.Borrow.{Bor}
-use Rattle.std.specs.Str.{chars}
-use Rattle.document_model.specs.Characters.{◌is◌}
-use Rattle.document_model.specs.Canonical.{Form, Rule, Inclusive, Exclusive}
-use Rattle.document_model.specs.Methods.{words_at, prefix_named}
-use Rattle.word_patterns.specs.Grammar.{WordForm, Plain, Keyed, Part, once, FitsOne, IsFaultyWord, text_behind}
-use Rattle.word_patterns.specs.TextForms.{is_file_name, are_prefixes, is_some_text, is_comma}
+-- The words of the program's commands.
+use Rattle.std.specs.Prelude.{ℕ, List, [], ◌∷◌, codes}
+use Rattle.word_patterns.specs.Grammar.{WordForm, Plain, Keyed, Part, once, FitsOne, IsFaultyWord}
+use Rattle.word_patterns.specs.TextForms.{is_file_name, are_prefixes, is_some_text}
 use Rattle.xades_cli.specs.declared.status.Status.{Status}
-use Rattle.xades_cli.specs.declared.status.Status.TheVariants.{Done, BadWords, NoSuchFile, ReadFault, WriteFault, TooLong, BadDocument, Refused, OutOfMemory}
-use Rattle.xades_cli.specs.declared.words.Command.{Command}
-use Rattle.xades_cli.specs.declared.words.Command.TheVariants.{Canon}
-use Rattle.xades_cli.specs.declared.words.Method.{Method}
+use Rattle.xades_cli.specs.declared.status.Status.TheVariants.{BadWords, OutOfMemory}
 
 -- a word that names a file behind a key
 abbrev pub file_word : List ℕ → WordForm
@@ -39,9 +31,15 @@ exclusive_words =
 abbrev pub inclusive_words : List Part
 inclusive_words = once (Plain (codes "canon")) ∷ once (file_word (codes "doc=")) ∷ once (Plain (codes "form=inclusive")) ∷ comments_word ∷ id_word ∷ []
 
+-- octets doc=FILE for=signature, and up to sixteen ext=NAME
+abbrev pub signature_words : List Part
+signature_words =
+    once (Plain (codes "octets")) ∷ once (file_word (codes "doc=")) ∷ once (Plain (codes "for=signature"))
+    ∷ record { forms = file_word (codes "ext=") ∷ []; least = 0; most = 16 } ∷ []
+
 -- the words of each command
 abbrev pub patterns : List (List Part)
-patterns = exclusive_words ∷ inclusive_words ∷ []
+patterns = exclusive_words ∷ inclusive_words ∷ signature_words ∷ []
 
 -- the words are those of a command
 abbrev pub IsCommand : List (List ℕ) → Type 0
@@ -52,40 +50,3 @@ abbrev pub IsWordFault : List (List ℕ) → Status → Type 0
 IsWordFault words (BadWords index) = IsFaultyWord patterns words index
 IsWordFault words OutOfMemory = Unit {0}
 IsWordFault words status = ⊥
-
--- what a command asks
-pub data Asked : Type 0 where
-  -- the canonical form of a document, or of the element with an identifier
-  AskedCanon : (document : List ℕ) (form : Form) (id : Option (List ℕ)) → Asked
-
--- a text, where there is one
-abbrev pub if_any : List ℕ → Option (List ℕ)
-if_any [] = None
-if_any (c ∷ text) = Some (c ∷ text)
-
--- the canonical form that a rule, a list of prefixes between commas, and the word on comments name
-abbrev pub form_by : Bool → List ℕ → Bool → Form
-form_by inclusive prefixes comments = record {
-  rule = if inclusive then Inclusive else Exclusive (map prefix_named (words_at is_comma (chars prefixes)));
-  comments = comments;
-}
-
--- the canonical form that the words name: the exclusive one without comments, where they name none
-abbrev pub form_asked : List (List ℕ) → Form
-form_asked words = form_by (text_behind (codes "form=") words is codes "inclusive") (text_behind (codes "prefixes=") words) (text_behind (codes "comments=") words is codes "yes")
-
--- what the words of a command ask
-abbrev pub asked_by : List (List ℕ) → Asked
-asked_by words = AskedCanon (text_behind (codes "doc=") words) (form_asked words) (if_any (text_behind (codes "id=") words))
-
--- the form that a method in memory names
-abbrev pub form_of : Method → Form
-form_of method = form_by method.inclusive method.prefixes.now method.comments
-
-abbrev pub option_now : Option (Bor (List ℕ)) → Option (List ℕ)
-option_now None = None
-option_now (Some text) = Some text.now
-
--- what a command of the program asks
-abbrev pub asked_of : Command → Asked
-asked_of (Canon document method id) = AskedCanon document.now (form_of method) (option_now id)

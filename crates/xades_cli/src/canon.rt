@@ -3,14 +3,14 @@ ghost use Rattle.std.specs.Prelude.{◌≡◌, ◌≤◌, length, IfOk};
 ghost use Rattle.document_model.specs.Documents.{document_of};
 ghost use Rattle.doc_spans.specs.Seen.{document_in};
 ghost use Rattle.canon_forms.specs.Forms.{form_in};
-ghost use Rattle.xades_cli.specs.Words.{form_of, option_now};
+ghost use Rattle.xades_cli.specs.Asked.{form_of, option_now};
 ghost use Rattle.xades_cli.specs.Outcomes.{canon_outcome, text_outcome, Writes};
 ghost use Rattle.document_model.specs.Canonical.{octets_of};
 ghost use Rattle.node_sets.specs.Sets.{set_in, doc_in};
 ghost use Rattle.xades_cli.specs.Computed.{IsComputed};
 
 use crate::code::Code;
-use crate::compute::Computed;
+use crate::compute::{Computed, refuse};
 use crate::status::Status;
 use crate::words::Method;
 use canon_forms::{Form, Prefixes, to_vec};
@@ -68,13 +68,6 @@ fn write_asked(alloc: Global, method: Method<'_>, id: Option<&str>, doc: Doc<'_>
             IdAnswer::Many => refuse(Code::TargetTwice { k: 0 }),
         },
     }
-}
-
-// A command that has no items refuses as item 0.
-fn refuse(code: Code) -> Computed
-    ensures { result ≡ Computed.Refused (Status.Refused 0 code) }
-{
-    Computed::Refused(Status::Refused { item: 0, code })
 }
 
 // The canonical text of a set.

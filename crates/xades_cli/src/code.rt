@@ -1,13 +1,38 @@
 // Why an item of a command is refused.
 ghost use Rattle.std.specs.Prelude.{◌≡◌};
 
-/// Why an item of a command is refused. `k` is the number of a Reference, from 1; 0 stands for the command's own identifier.
+use signature_shape::What;
+
+/// Why an item of a command is refused. `k` is the number of a Reference, from 1; 0 stands for the command's own identifier. `at` is the
+/// place of an element's first byte in the document, from 0.
 #[derive(Clone, Copy, PartialEq, Eq, Debug)]
 pub enum Code {
+    /// A1: the document has no signature.
+    NoSignature,
+    /// A2: it has several, those inside another one aside.
+    Several,
+    /// A3: the shape of the signature is broken in a line, at an element.
+    Shape { at: u32, what: What },
+    /// A4: a time-stamp has an `Include`.
+    Include { at: u32 },
+    /// A5: the text of an element isn't base64 of one whole certificate, CRL or token.
+    PropertyData { at: u32 },
     /// A6: no element has the identifier.
     TargetMissing { k: u32 },
     /// A7: more than one attribute is the identifier.
     TargetTwice { k: u32 },
+    /// A8: the transforms are no chain.
+    Chain { k: u32 },
+    /// A9: the digest algorithm is unknown.
+    DigestName { k: u32 },
+    /// A10: no octets are handed in for an external Reference.
+    External { k: u32 },
+    /// A11: the text that is decoded isn't base64; `at` counts its characters without white space.
+    Base64 { k: u32, at: u32 },
+    /// A12: the Reference covers a place at which something is to be put in.
+    SelfCover { k: u32 },
+    /// A13: the signature has a value.
+    AlreadySigned,
 }
 
 impl Code {
@@ -18,8 +43,19 @@ impl Code {
         ensures { result ≡ code_number self.now }
     {
         match self {
+            Code::NoSignature => 1,
+            Code::Several => 2,
+            Code::Shape { .. } => 3,
+            Code::Include { .. } => 4,
+            Code::PropertyData { .. } => 5,
             Code::TargetMissing { .. } => 6,
             Code::TargetTwice { .. } => 7,
+            Code::Chain { .. } => 8,
+            Code::DigestName { .. } => 9,
+            Code::External { .. } => 10,
+            Code::Base64 { .. } => 11,
+            Code::SelfCover { .. } => 12,
+            Code::AlreadySigned => 13,
         }
     }
 }

@@ -1,16 +1,20 @@
-//! The command `xades`: canonical forms of XML documents.
+//! The command `xades`: canonical forms of XML documents, and the octets that signatures sign.
 #![tactic(auto)]
 
 mod canon;
 mod code;
 mod compute;
 mod files;
+mod handing;
 mod lines;
+mod octets;
 mod plan;
 mod run;
 mod status;
 #[cfg(test)]
 mod tests;
+#[cfg(test)]
+mod tests_of_octets;
 mod words;
 
 use run::run;

@@ -3,10 +3,11 @@ ghost use Rattle.std.specs.Prelude.{◌≡◌, ℕ, List, [], Option, Some, map,
 ghost use Rattle.xa_io.specs.Causes.{Rose};
 ghost use Rattle.xa_io.specs.Shelf.{Files};
 ghost use Rattle.xades_cli.specs.Reading.{Counts};
-ghost use Rattle.xades_cli.specs.Words.{asked_of, asked_by, IsCommand};
+ghost use Rattle.xades_cli.specs.Words.{IsCommand};
+ghost use Rattle.xades_cli.specs.Asked.{asked_of, asked_by};
 ghost use Rattle.xades_cli.specs.Wanted.{Found, fetch, document_size};
 ghost use Rattle.xades_cli.specs.Causes.{HasCause};
-ghost use Rattle.xades_cli.specs.Outcomes.{wants_of};
+ghost use Rattle.xades_cli.specs.Commands.{wants_of};
 ghost use Rattle.xades_cli.specs.Answers.{IsByWords, IsRight, IsSized, OnQuiet, Completes};
 ghost use Rattle.xades_cli.specs.Lines.{Tells};
 
@@ -45,13 +46,13 @@ fn first_size(contents: &[Octs]) -> usize
 // Reads the files of a command, computes, and writes.
 fn perform<S: Shelf, O: Sink>(
     alloc: Global,
-    command: Command<'_>,
+    command: &Command<'_>,
     shelf: &mut S,
     out: &mut O,
 ) -> Ended
-    ensures told { (files : Files) → S.held shelf.old ≡ Some files → IsRight (asked_of command.entry) files result.status (O.given out.old) (O.given out.new) }
-    ensures sized { (files : Files) → S.held shelf.old ≡ Some files → IsSized result.status (fetch files [] (wants_of (asked_of command.entry))) result.size }
-    ensures cause { HasCause (wants_of (asked_of command.entry)) (record { faults = S.faults shelf.old; misses = S.misses shelf.old; gave = S.gave shelf.old })
+    ensures told { (files : Files) → S.held shelf.old ≡ Some files → IsRight (asked_of command.now) files result.status (O.given out.old) (O.given out.new) }
+    ensures sized { (files : Files) → S.held shelf.old ≡ Some files → IsSized result.status (fetch files [] (wants_of (asked_of command.now))) result.size }
+    ensures cause { HasCause (wants_of (asked_of command.now)) (record { faults = S.faults shelf.old; misses = S.misses shelf.old; gave = S.gave shelf.old })
         (record { faults = S.faults shelf.new; misses = S.misses shelf.new; gave = S.gave shelf.new }) result.status }
     ensures write { result.status ≡ Status.WriteFault → Rose (O.faults out.old) (O.faults out.new) }
     ensures quiet { OnQuiet result.status (out.new ≡ out.old) }
@@ -63,7 +64,7 @@ fn perform<S: Shelf, O: Sink>(
     match read_files(alloc, shelf, wanted.as_slice()) {
         Ok(contents) => {
             let size = first_size(contents.as_slice());
-            match compute(alloc, command, contents.as_slice()) {
+            match compute(alloc, command, contents) {
                 Computed::Done(bytes) => match out.put(bytes.as_slice()) {
                     Ok(()) => Ended {
                         status: Status::Done,
@@ -97,7 +98,7 @@ fn carry_out<S: Shelf, O: Sink>(
     ensures quiet { OnQuiet result.status (out.new ≡ out.old) }
 {
     match read_words(alloc, words.as_slice()) {
-        Ok(command) => perform(alloc, command, shelf, out),
+        Ok(command) => perform(alloc, &command, shelf, out),
         Err(status) => early(status),
     }
 }

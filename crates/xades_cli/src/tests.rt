@@ -23,7 +23,7 @@ struct Row {
 
 // What a run came to: its number, and what the sinks were given.
 #[derive(Drop)]
-struct Answer {
+pub(crate) struct Answer {
     number: u8,
     out: MemSink,
     err: MemSink,
@@ -31,13 +31,13 @@ struct Answer {
 
 // Calls that are to fail: of the shelf, of `out` and of `err`, with how many bytes they take. 0 is no call.
 #[derive(Clone, Copy)]
-struct Failing {
+pub(crate) struct Failing {
     shelf: u64,
     out: (u64, usize),
     err: (u64, usize),
 }
 
-const NONE: Failing = Failing {
+pub(crate) const NONE: Failing = Failing {
     shelf: 0,
     out: (0, 0),
     err: (0, 0),
@@ -51,8 +51,8 @@ fn words_of(rt: &HostRuntime, texts: &[&str]) -> Result<Vec<String>, Fail> {
     Ok(words)
 }
 
-// Runs the words over a shelf that holds the document as `a` and gives at most `most` bytes a call.
-fn answer_of(
+// Runs the words over a shelf that holds the document as `a` and three bytes as `e`, and gives at most `most` bytes a call.
+pub(crate) fn answer_of(
     rt: &HostRuntime,
     texts: &[&str],
     document: &[u8],
@@ -64,6 +64,7 @@ fn answer_of(
     let words = words_of(rt, texts)?;
     let mut shelf = MemShelf::new(rt.alloc(), most);
     shelf.add("a", document)?;
+    shelf.add("e", b"abc")?;
     shelf.fail_at(failing.shelf)?;
     let mut out = MemSink::new(rt.alloc(), 4000)?;
     out.fail_at(failing.out.0, failing.out.1)?;
@@ -78,7 +79,14 @@ fn answer_of(
 }
 
 // The answer is this one; `row` is its number in a table.
-fn compare(rt: &impl Abort, row: usize, answer: &Answer, number: u8, out: &[u8], err: &[u8]) {
+pub(crate) fn compare(
+    rt: &impl Abort,
+    row: usize,
+    answer: &Answer,
+    number: u8,
+    out: &[u8],
+    err: &[u8],
+) {
     assert_eq!(rt; answer.number, number, "row {row}");
     assert_eq!(rt; answer.out.as_slice(), out, "row {row}");
     assert_eq!(rt; answer.err.as_slice(), err, "row {row}");
@@ -260,6 +268,15 @@ const STRAY: &[(&[&str], u8)] = &[
     (&["canon", "doc=a", "prefixes="], b'3'),
     (&["canon", "doc=a", "prefixes=a,,b"], b'3'),
     (&["canon", "doc=a", "prefixes=a:b"], b'3'),
+    (&["octets"], b'2'),
+    (&["octets", "form=exclusive"], b'2'),
+    (&["octets", "doc=a"], b'3'),
+    (&["octets", "doc=a", "ext=e"], b'3'),
+    (&["octets", "doc=a", "for=stamp"], b'3'),
+    (&["octets", "doc=a", "for=archive"], b'3'),
+    (&["octets", "doc=a", "for=signature", "ext="], b'4'),
+    (&["octets", "doc=a", "for=signature", "ext=e", "id=x"], b'5'),
+    (&["canon", "doc=a", "for=signature"], b'3'),
     (&["canon", "doc=a", "id=x", "id=x"], b'4'),
     (&["canon", "doc=a", "comments=no", "form=exclusive"], b'4'),
     (&["canon", "doc=a", "form=inclusive", "prefixes=a"], b'4'),

@@ -1,7 +1,8 @@
 // The words of the command line.
-ghost use Rattle.std.specs.Prelude.{◌≡◌, List, map, string_bytes, IfOk, MatchOption, MatchResult};
+ghost use Rattle.std.specs.Prelude.{◌≡◌, ◌∷◌, ◌++◌, List, [], map, string_bytes, IfOk, OnOk, MatchOption, MatchResult};
 ghost use Rattle.word_patterns.specs.Grammar.{IsFaultyWord};
-ghost use Rattle.xades_cli.specs.Words.{patterns, IsCommand, IsWordFault, asked_by, asked_of, form_of, form_asked, if_any, option_now};
+ghost use Rattle.xades_cli.specs.Asked.{asked_by, asked_of, form_of, form_asked, goes_by, if_any, option_now, text_now, texts_behind};
+ghost use Rattle.xades_cli.specs.Words.{patterns, IsCommand, IsWordFault};
 
 use crate::status::Status;
 use std::alloc::Global;
@@ -20,13 +21,18 @@ pub struct Method<'a> {
 }
 
 /// A command, with the names of its files.
-#[derive(Clone, Copy, Debug)]
+#[derive(Debug, Drop)]
 pub enum Command<'a> {
     /// Write the canonical form of a document, or of the element with an identifier.
     Canon {
         document: &'a str,
         method: Method<'a>,
         id: Option<&'a str>,
+    },
+    /// Write the octets that the signature of a document signs. The external files are handed in under their names.
+    Octets {
+        document: &'a str,
+        externals: Vec<&'a str>,
     },
 }
 
@@ -75,15 +81,39 @@ const ID: Part<'static> = Part {
     most: 1,
 };
 
+const OCTETS: Part<'static> = Part {
+    forms: &[WordForm::Plain("octets")],
+    least: 1,
+    most: 1,
+};
+
+const FOR_SIGNATURE: Part<'static> = Part {
+    forms: &[WordForm::Plain("for=signature")],
+    least: 1,
+    most: 1,
+};
+
+const EXTERNALS: Part<'static> = Part {
+    forms: &[WordForm::Keyed("ext=", TextForm::FileName)],
+    least: 0,
+    most: 16,
+};
+
 const EXCLUSIVE_WORDS: &[Part<'static>] = &[CANON, DOCUMENT, EXCLUSIVE, COMMENTS, PREFIXES, ID];
 
 const INCLUSIVE_WORDS: &[Part<'static>] = &[CANON, DOCUMENT, INCLUSIVE, COMMENTS, ID];
+
+const SIGNATURE_WORDS: &[Part<'static>] = &[OCTETS, DOCUMENT, FOR_SIGNATURE, EXTERNALS];
 
 // The number of the faulty word, if there is one.
 fn faulty(alloc: Global, words: &[String]) -> Result<Option<u32>, OutOfMemory>
     ensures { IfOk result (λ number. MatchOption number (IsCommand (map string_bytes words.now)) (λ at. IsFaultyWord patterns (map string_bytes words.now) at)) }
 {
-    faulty_word(alloc, &[EXCLUSIVE_WORDS, INCLUSIVE_WORDS], words)
+    faulty_word(
+        alloc,
+        &[EXCLUSIVE_WORDS, INCLUSIVE_WORDS, SIGNATURE_WORDS],
+        words,
+    )
 }
 
 // How the words name a canonical form.
@@ -104,15 +134,63 @@ fn if_any<'a>(text: &'a str) -> Option<&'a str>
     if text.is_empty() { None } else { Some(text) }
 }
 
-// What the words of a command ask.
-fn command_of<'a>(words: &'a [String]) -> Command<'a>
-    ensures { asked_by (map string_bytes words.now) ≡ asked_of result }
+// Puts the text behind the key, where the word begins with it.
+fn push_behind<'a>(texts: &mut Vec<&'a str>, key: &str, word: &'a str) -> Result<(), OutOfMemory>
+    ensures { OnOk result (map text_now texts.new.items ≡ map text_now texts.old.items ++ texts_behind key.now (word.now ∷ [])) }
 {
-    Command::Canon {
-        document: text_behind("doc=", words),
+    let Some(text) = word.strip_prefix(key) else {
+        return Ok(());
+    };
+    match texts.push(text) {
+        Ok(()) => Ok(()),
+        Err(_) => Err(OutOfMemory),
+    }
+}
+
+// The texts behind the key, in each word that begins with it.
+fn texts_behind<'a>(
+    alloc: Global,
+    key: &str,
+    words: &'a [String],
+) -> Result<Vec<&'a str>, OutOfMemory>
+    ensures { IfOk result (λ texts. map text_now texts.items ≡ texts_behind key.now (map string_bytes words.now)) }
+{
+    let mut texts = Vec::new(alloc);
+    for word in words {
+        push_behind(&mut texts, key, word.as_str())?;
+    }
+    Ok(texts)
+}
+
+// Whether the words are those of the command with a name.
+fn goes_by(name: &str, words: &[String]) -> bool
+    ensures { result ≡ goes_by name.now (map string_bytes words.now) }
+{
+    match words {
+        [word, ..] => word.as_str().as_bytes() == name.as_bytes(),
+        [] => false,
+    }
+}
+
+// What the words of a command ask.
+fn command_of<'a>(alloc: Global, words: &'a [String]) -> Result<Command<'a>, OutOfMemory>
+    ensures { IfOk result (λ command. asked_by (map string_bytes words.now) ≡ asked_of command) }
+{
+    let document = text_behind("doc=", words);
+    if goes_by("octets", words) {
+        return match texts_behind(alloc, "ext=", words) {
+            Ok(externals) => Ok(Command::Octets {
+                document,
+                externals,
+            }),
+            Err(OutOfMemory) => Err(OutOfMemory),
+        };
+    }
+    Ok(Command::Canon {
+        document,
         method: method_of(words),
         id: if_any(text_behind("id=", words)),
-    }
+    })
 }
 
 /// The command that the words are; else the status that tells the first word, from 1, with which no command goes on.
@@ -122,7 +200,10 @@ pub fn read_words<'a>(alloc: Global, words: &'a [String]) -> Result<Command<'a>,
         (λ status. IsWordFault (map string_bytes words.now) status) }
 {
     match faulty(alloc, words) {
-        Ok(None) => Ok(command_of(words)),
+        Ok(None) => match command_of(alloc, words) {
+            Ok(command) => Ok(command),
+            Err(OutOfMemory) => Err(Status::OutOfMemory),
+        },
         Ok(Some(index)) => Err(Status::BadWords { index }),
         Err(OutOfMemory) => Err(Status::OutOfMemory),
     }

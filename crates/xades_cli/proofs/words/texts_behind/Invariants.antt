@@ -1,0 +1,7 @@
+use Rattle.std.proofs.Common.{◌≡◌, take, map, string_bytes}
+use Rattle.xades_cli.specs.Asked.{text_now, texts_behind}
+use Rattle.xades_cli.proofs.words.texts_behind.Given as goal
+
+-- the texts of the words so far
+abbrev pub invariant-loop-word : goal.invariant-loop-word
+invariant-loop-word l = map text_now l.texts.items ≡ texts_behind l.key (map string_bytes (take l.word-index l.words))

@@ -1,0 +1,70 @@
+-- What the words of a command ask.
+use Rattle.std.specs.Prelude.{ℕ, List, [], ◌∷◌, Bool, false, map, codes, drop, length, nat_eq, Option, None, Some, if◌then◌else◌}
+use Rattle.std.specs.Borrow.{Bor}
+use Rattle.std.specs.List.{starts_with}
+use Rattle.std.specs.Str.{chars}
+use Rattle.document_model.specs.Characters.{◌is◌}
+use Rattle.document_model.specs.Canonical.{Form, Inclusive, Exclusive}
+use Rattle.document_model.specs.Methods.{words_at, prefix_named}
+use Rattle.word_patterns.specs.Grammar.{text_behind}
+use Rattle.word_patterns.specs.TextForms.{is_comma}
+use Rattle.xades_cli.specs.declared.words.Command.{Command}
+use Rattle.xades_cli.specs.declared.words.Command.TheVariants.{Canon, Octets}
+use Rattle.xades_cli.specs.declared.words.Method.{Method}
+
+-- what a command asks
+pub data Asked : Type 0 where
+  -- the canonical form of a document, or of the element with an identifier
+  AskedCanon : (document : List ℕ) (form : Form) (id : Option (List ℕ)) → Asked
+  -- the octets that the signature of a document signs, with the names of files that are handed in
+  AskedOctets : (document : List ℕ) (externals : List (List ℕ)) → Asked
+
+-- a text, where there is one
+abbrev pub if_any : List ℕ → Option (List ℕ)
+if_any [] = None
+if_any (c ∷ text) = Some (c ∷ text)
+
+-- the canonical form that a rule, a list of prefixes between commas, and the word on comments name
+abbrev pub form_by : Bool → List ℕ → Bool → Form
+form_by inclusive prefixes comments = record {
+  rule = if inclusive then Inclusive else Exclusive (map prefix_named (words_at is_comma (chars prefixes)));
+  comments = comments;
+}
+
+-- the canonical form that the words name: the exclusive one without comments, where they name none
+abbrev pub form_asked : List (List ℕ) → Form
+form_asked words = form_by (text_behind (codes "form=") words is codes "inclusive") (text_behind (codes "prefixes=") words) (text_behind (codes "comments=") words is codes "yes")
+
+-- the texts behind a key, in each word that begins with it
+abbrev pub texts_behind : List ℕ → List (List ℕ) → List (List ℕ)
+texts_behind key [] = []
+texts_behind key (word ∷ words) =
+    if starts_with nat_eq word key then drop (length key) word ∷ texts_behind key words else texts_behind key words
+
+-- whether a command goes by a name, which is its first word
+abbrev pub goes_by : List ℕ → List (List ℕ) → Bool
+goes_by name [] = false
+goes_by name (word ∷ words) = word is name
+
+-- what the words of a command ask
+abbrev pub asked_by : List (List ℕ) → Asked
+asked_by words =
+    if goes_by (codes "octets") words
+    then AskedOctets (text_behind (codes "doc=") words) (texts_behind (codes "ext=") words)
+    else AskedCanon (text_behind (codes "doc=") words) (form_asked words) (if_any (text_behind (codes "id=") words))
+
+-- the form that a method in memory names
+abbrev pub form_of : Method → Form
+form_of method = form_by method.inclusive method.prefixes.now method.comments
+
+abbrev pub option_now : Option (Bor (List ℕ)) → Option (List ℕ)
+option_now None = None
+option_now (Some text) = Some text.now
+
+abbrev pub text_now : Bor (List ℕ) → List ℕ
+text_now text = text.now
+
+-- what a command of the program asks
+abbrev pub asked_of : Command → Asked
+asked_of (Canon document method id) = AskedCanon document.now (form_of method) (option_now id)
+asked_of (Octets document externals) = AskedOctets document.now (map text_now externals.items)
