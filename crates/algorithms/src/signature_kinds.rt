@@ -33,15 +33,24 @@ impl SignatureKind {
         }
     }
 
-    /// The kind with this object identifier, given by its content octets. Keys and signatures have
-    /// the same one.
+    /// The content octets of the kind's object identifier, which keys and signatures have alike.
+    pub fn oid(self) -> &'static [u8]
+        ensures { result.now ≡ oid_of self }
+    {
+        match self {
+            SignatureKind::Hss => &HSS,
+            SignatureKind::Xmss => &XMSS,
+        }
+    }
+
+    /// The kind with this object identifier, given by its content octets.
     pub fn of_oid(oid: &[u8]) -> Option<SignatureKind>
         ensures named { IfSome result (λ kind. oid.now ≡ oid_of kind) }
         ensures each { (kind : SignatureKind) → oid.now ≡ oid_of kind → result ≡ Some kind }
     {
-        if oid == HSS.as_slice() {
+        if oid == SignatureKind::Hss.oid() {
             Some(SignatureKind::Hss)
-        } else if oid == XMSS.as_slice() {
+        } else if oid == SignatureKind::Xmss.oid() {
             Some(SignatureKind::Xmss)
         } else {
             None

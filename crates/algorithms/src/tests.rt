@@ -44,10 +44,12 @@ fn digests_of_abc(rt: HostRuntime) -> Result<(), Fail> {
 
 #[test]
 fn kinds_of_signatures(rt: HostRuntime) {
-    let oid = b"\x2A\x86\x48\x86\xF7\x0D\x01\x09\x10\x03\x11";
+    let oid: &[u8] = b"\x2A\x86\x48\x86\xF7\x0D\x01\x09\x10\x03\x11";
     assert_eq!(rt; SignatureKind::of_oid(oid), Some(SignatureKind::Hss));
-    let oid = b"\x2B\x06\x01\x05\x05\x07\x06\x22";
+    assert_eq!(rt; SignatureKind::Hss.oid(), oid);
+    let oid: &[u8] = b"\x2B\x06\x01\x05\x05\x07\x06\x22";
     assert_eq!(rt; SignatureKind::of_oid(oid), Some(SignatureKind::Xmss));
+    assert_eq!(rt; SignatureKind::Xmss.oid(), oid);
     assert_eq!(rt; SignatureKind::of_oid(b"\x2A"), None);
     assert_eq!(rt; SignatureKind::Hss.word(), "hss");
     assert_eq!(rt; SignatureKind::Xmss.word(), "xmss");

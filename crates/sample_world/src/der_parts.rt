@@ -4,14 +4,10 @@ ghost use Rattle.std.specs.Prelude.{◌≡◌, ◌++◌, ◌∷◌, ◌<◌, ◌
 ghost use Rattle.xa_io.specs.Tlv.{tlv};
 ghost use Rattle.sample_world.specs.Parts.{integer, bit_string, algorithm, name, signed_object};
 
+use algorithms::SignatureKind;
 use itoa::Buffer;
 use std::alloc::Global;
 use xa_io::{Octs, OutOfMemory, put_tlv};
-
-// The content octets of id-alg-hss-lms-hashsig, 1.2.840.113549.1.9.16.3.17 (RFC 8708, section 3).
-const HSS: [u8; 11] = [
-    0x2A, 0x86, 0x48, 0x86, 0xF7, 0x0D, 0x01, 0x09, 0x10, 0x03, 0x11,
-];
 
 // The content octets of id-at-commonName, 2.5.4.3 (RFC 5280, appendix A.1).
 const COMMON_NAME: [u8; 3] = [0x55, 0x04, 0x03];
@@ -55,12 +51,12 @@ pub fn put_bit_string(alloc: Global, out: &mut Octs, octets: &[u8]) -> Result<()
     put_tlv(out, 0x03, content.as_slice())
 }
 
-/// Appends the AlgorithmIdentifier of HSS.
+/// Appends the AlgorithmIdentifier of HSS, which has no parameters (RFC 8708, section 3).
 #[tactic(auto, unfolding(crate::specs::Parts::algorithm))]
 pub fn put_algorithm(alloc: Global, out: &mut Octs) -> Result<(), OutOfMemory>
     ensures { OnOk result (out.new ≡ out.old ++ algorithm) }
 {
-    let oid = element(alloc, 0x06, &HSS)?;
+    let oid = element(alloc, 0x06, SignatureKind::Hss.oid())?;
     put_tlv(out, 0x30, oid.as_slice())
 }
 
