@@ -1,5 +1,5 @@
 -- A walk over a text, character by character.
-use Rattle.std.proofs.Common.{◌≡◌, ℕ, ◌+◌, ◌-◌, ◌<◌, Bool, true, false, List, [], ◌∷◌, ◌++◌, length, take, drop, get_or, refl, sym, ap, ◌∙◌, subst, append_assoc, arith, length-append}
+use Rattle.std.proofs.Common.{◌≡◌, ℕ, ◌+◌, ◌-◌, ◌<◌, Bool, true, false, List, [], ◌∷◌, ◌++◌, length, take, drop, get_or, refl, sym, ap, ◌∙◌, subst, append_assoc, arith, length-append, ◌≤◌, length-drop}
 use Rattle.std.specs.Str.{IsUtf8, chars, IsCharBoundary}
 use Rattle.std.specs.Char.{encode_utf8}
 use Rattle.std.proofs.Math.Seq.{take-append_seam, drop-append_seam}
@@ -78,3 +78,21 @@ passed_all p text rest w e =
     let s = front_split p text rest w in
     w.passed ∙ ap (λ x. (chars w.front ++ x.0, x.1)) e ∙ ap (λ x. (x, chars rest)) (append-nil (chars w.front))
     ∙ (λ i. (chars (sym s.0 i), chars (sym s.1 i)))
+
+-- the run ends at this byte, an ASCII character that doesn't pass
+pub stops_at_byte : (p : ℕ → Bool) (text : List ℕ) (at : ℕ) → at < length text → get_or text at 0 < 128 → p (get_or text at 0) ≡ false → IsUtf8 (drop at text) → span p (chars (drop at text)) ≡ ([], chars (drop at text))
+stops_at_byte p text at within ascii h u =
+    let x = get_or text at 0 in
+    let next = drop (at + 1) text in
+    stops_before p (drop at text) next x u (drop_more text at 0 within ∙ ap (λ xs. xs ++ next) (sym (encode_ascii x ascii))) h
+
+-- behind the last byte
+pub stops_behind : (p : ℕ → Bool) (text : List ℕ) (at : ℕ) → length text ≤ at → span p (chars (drop at text)) ≡ ([], chars (drop at text))
+stops_behind p text at behind = stops_at_end p (drop at text) (omega (arith, behind, length-drop at text))
+
+-- where the run ends at a place, the text is cut there
+pub passed_at : (p : ℕ → Bool) (text : List ℕ) (at : ℕ) → at ≤ length text → Passed p text (drop at text) → span p (chars (drop at text)) ≡ ([], chars (drop at text))
+    → span p (chars text) ≡ (chars (take at text), chars (drop at text))
+passed_at p text at within w e =
+    let place : length text - length (drop at text) ≡ at = omega (arith, within, length-drop at text) in
+    subst (λ (k : ℕ). span p (chars text) ≡ (chars (take k text), chars (drop k text))) place (passed_all p text (drop at text) w e)

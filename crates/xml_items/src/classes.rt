@@ -94,6 +94,9 @@ pub fn front<'a>(text: &'a str, class: Class) -> (&'a str, &'a str)
     'bytes: while at < bytes.len() && bytes[at] < 0x80 && has(class, bytes[at] as char) {
         at += 1;
     }
+    if at == bytes.len() || bytes[at] < 0x80 {
+        return text.split_at(at);
+    }
     let (_, further) = text.split_at(at);
     let mut rest = further.chars();
     loop {
