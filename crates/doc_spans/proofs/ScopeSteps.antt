@@ -1,14 +1,14 @@
 -- The scope of declarations, over the tags of the elements that are open.
-use Rattle.std.proofs.Common.{◌≡◌, ℕ, Bool, true, false, ◌&&◌, List, [], ◌∷◌, codes, cond, Option, Some, None, is_some, refl, ◌∙◌, ap}
+use Rattle.std.proofs.Common.{◌≡◌, ℕ, Bool, true, false, not, ◌&&◌, List, [], ◌∷◌, codes, cond, Option, Some, None, is_some, refl, ◌∙◌, ap}
 use Rattle.std.proofs.lemmas.Str.{chars-nil, chars-IsAscii}
 use Rattle.std.specs.List.{list_all}
 use Rattle.std.specs.Str.{chars}
 use Rattle.document_model.specs.Characters.{is_empty, ◌is◌}
 use Rattle.document_model.specs.Items.{Attribute, value_of}
-use Rattle.document_model.specs.Scopes.{Tag, xml_space, xmlns_space, space_of, declared_prefix, declared_space, value_or, is_declared, are_distinct, is_sound}
+use Rattle.document_model.specs.Scopes.{Tag, xml_space, xmlns_space, space_of, declared_prefix, declared_space, value_or, is_sound_declaration, attribute_name, is_declared, none_is, are_distinct, is_sound}
 use Rattle.xml_items.specs.Found.{value_in, IsValueText}
 use Rattle.xml_items.proofs.AsciiTexts.{ascii_from}
-use Rattle.doc_spans.specs.ScopesIn.{bound_space, names_in, declares_soundly, names_soundly}
+use Rattle.doc_spans.specs.ScopesIn.{bound_space, names_in, name_soundly, attribute_soundly, attributes_soundly}
 
 pub default_prefix : (a : Attribute) → is_empty a.name.prefix ≡ true → (a.name.local is codes "xmlns") ≡ true → declared_prefix a ≡ Some []
 default_prefix a e f = rw (e, f) refl
@@ -54,14 +54,36 @@ space_by_bound prefix tags found e = ap (λ o. value_or o (declared_space prefix
     by_prefix false true = refl
     by_prefix false false = refl
 
-three : (x y z : Bool) → (x && (y && z)) ≡ x && y && z
-three true y z = refl
-three false y z = refl
+-- the parts of one attribute and of those behind it, kind by kind
+merged : (s d n ss ds ns : Bool) → (s && d && n && (ss && ds && ns)) ≡ ((s && ss) && (d && ds) && (n && ns))
+merged false d n ss ds ns = refl
+merged true false n true ds ns = refl
+merged true false n false ds ns = refl
+merged true true false true true ns = refl
+merged true true false true false ns = refl
+merged true true false false ds ns = refl
+merged true true true ss ds ns = refl
 
-pub sound_halves : (outer : List Tag) (tag : Tag) (x y : Bool) → x ≡ declares_soundly outer tag → y ≡ names_soundly outer tag → (x && y) ≡ is_sound outer tag
+sound_attributes : (tags : List Tag) (xs : List Attribute)
+    → attributes_soundly tags xs ≡ list_all is_sound_declaration xs && list_all (λ a. is_declared tags a.name) xs && are_distinct (names_in tags xs)
+sound_attributes tags [] = refl
+sound_attributes tags (a ∷ xs) =
+    let one : Bool = attribute_soundly tags a xs in
+    ap (λ b. one && b) (sound_attributes tags xs)
+    ∙ merged (is_sound_declaration a) (is_declared tags a.name) (none_is (attribute_name tags a.name) (names_in tags xs)) (list_all is_sound_declaration xs) (list_all (λ b. is_declared tags b.name) xs) (are_distinct (names_in tags xs))
+
+name_last : (u v s d n : Bool) → ((u && v) && (s && d && n)) ≡ s && u && v && d && n
+name_last false v true d n = refl
+name_last false v false d n = refl
+name_last true false true d n = refl
+name_last true false false d n = refl
+name_last true true true d n = refl
+name_last true true false d n = refl
+
+pub sound_parts : (outer : List Tag) (tag : Tag) (xs : List Attribute) (x y : Bool) → xs ≡ tag.attributes → x ≡ name_soundly outer tag → y ≡ attributes_soundly (tag ∷ outer) xs → (x && y) ≡ is_sound outer tag
 unfolding is_sound
-sound_halves outer tag x y e f = (λ i. e i && f i) ∙ three (declares_soundly outer tag) (list_all (λ a. is_declared (tag ∷ outer) a.name) tag.attributes) (are_distinct (names_in (tag ∷ outer) tag.attributes))
-
-pub names_of : (tags : List Tag) (xs ys : List Attribute) (x y : Bool) → xs ≡ ys → x ≡ list_all (λ a. is_declared tags a.name) xs → y ≡ are_distinct (names_in tags xs)
-    → (x && y) ≡ list_all (λ a. is_declared tags a.name) ys && are_distinct (names_in tags ys)
-names_of tags xs ys x y e f g = (λ i. f i && g i) ∙ ap (λ zs. list_all (λ a. is_declared tags a.name) zs && are_distinct (names_in tags zs)) e
+sound_parts outer tag xs x y same e f =
+    let all : List Tag = tag ∷ outer in
+    (λ i. e i && f i) ∙ ap (λ bs. name_soundly outer tag && attributes_soundly all bs) same
+    ∙ ap (λ b. name_soundly outer tag && b) (sound_attributes all tag.attributes)
+    ∙ name_last (not (tag.name.prefix is codes "xmlns")) (is_declared all tag.name) (list_all is_sound_declaration tag.attributes) (list_all (λ a. is_declared all a.name) tag.attributes) (are_distinct (names_in all tag.attributes))

@@ -1,7 +1,6 @@
 //! Scopes of declarations, and whether the names of a tag are sound in them.
 
 ghost use Rattle.std.specs.Prelude.{◌≡◌, not, option_map, codes, IfSome, if◌then◌else◌};
-ghost use Rattle.std.specs.List.{list_all};
 ghost use Rattle.std.specs.Str.{chars};
 ghost use Rattle.document_model.specs.Characters.{is_empty, ◌is◌};
 ghost use Rattle.document_model.specs.Scopes.{xml_space, xmlns_space, declared_prefix, declares, declared_value, may_bind, is_sound_declaration};
@@ -97,30 +96,12 @@ fn is_xml_bound_alone(prefix: &str, value: &str) -> bool
     }
 }
 
-fn is_sound_declaration<'a>(a: Attribute<'a>) -> bool
+pub(crate) fn is_sound_declaration<'a>(a: Attribute<'a>) -> bool
     ensures { result ≡ is_sound_declaration (attribute_in a.entry) }
 {
     match declared_prefix(a) {
         Some(prefix) => may_bind(prefix, a.value),
         None => true,
-    }
-}
-
-// Whether all declarations among attributes are sound.
-pub(crate) fn are_sound_declarations<'a>(attributes: Attributes<'a>) -> bool
-    ensures { result ≡ list_all is_sound_declaration (attributes_left attributes.entry) }
-{
-    let mut rest = attributes;
-    'attributes: loop {
-        match rest.first() {
-            Some((a, behind)) => {
-                if !is_sound_declaration(a) {
-                    return false;
-                }
-                rest = behind;
-            }
-            None => return true,
-        }
     }
 }
 

@@ -1,17 +1,16 @@
 //! Whether a tag's names and declarations are sound where it stands.
 
 ghost use Rattle.std.specs.Prelude.{◌≡◌, ◌||◌, [], not, if◌then◌else◌};
-ghost use Rattle.std.specs.List.{list_all};
 ghost use Rattle.std.specs.Str.{chars};
 ghost use Rattle.document_model.specs.Characters.{is_empty};
 ghost use Rattle.document_model.specs.Names.{same_expanded};
-ghost use Rattle.document_model.specs.Scopes.{declared_space, space_of, is_declared, attribute_name, none_is, are_distinct, is_sound};
+ghost use Rattle.document_model.specs.Scopes.{declared_space, space_of, attribute_name, none_is, is_sound};
 ghost use Rattle.xml_items.specs.Found.{value_in, IsValueText};
 ghost use Rattle.xml_items.specs.Attributes.{attribute_in, attributes_left};
 
 use crate::declarations::Declared;
 use crate::open_tags::OpenTag;
-use crate::scopes::{are_sound_declarations, bound_space, declared_value};
+use crate::scopes::{bound_space, declared_value, is_sound_declaration};
 use crate::stacks::Scopes;
 use xml_items::attribute_walk::{Attribute, Attributes};
 use xml_items::names::name_parts;
@@ -28,7 +27,7 @@ pub(crate) struct Scope<'s, 'a> {
 impl<'s, 'a> Scope<'s, 'a> {
     ghost use Rattle.doc_spans.specs.OpenTags.{tag_in};
     ghost use Rattle.doc_spans.specs.Scopes.{tags_around};
-    ghost use Rattle.doc_spans.specs.ScopesIn.{scope_in, names_in, declares_soundly, names_soundly};
+    ghost use Rattle.doc_spans.specs.ScopesIn.{scope_in, names_in, attribute_soundly, attributes_soundly, name_soundly};
 
     // The value of a prefix by the declarations; the text of an empty value where there is none.
     fn declared_space(&self, prefix: &str) -> &'a str
@@ -68,23 +67,6 @@ impl<'s, 'a> Scope<'s, 'a> {
         ensures { result ≡ (is_empty (chars prefix.now) || not (is_empty (space_of (chars prefix.now) (scope_in self.now)))) }
     {
         is_empty(prefix) || !is_empty_value(self.space_of(prefix))
-    }
-
-    fn are_declared(&self, attributes: Attributes<'a>) -> bool
-        ensures { result ≡ list_all (λ a. is_declared (scope_in self.now) a.name) (attributes_left attributes.entry) }
-    {
-        let mut rest = attributes;
-        'attributes: loop {
-            match rest.first() {
-                Some((a, behind)) => {
-                    if !self.is_declared(a.prefix) {
-                        return false;
-                    }
-                    rest = behind;
-                }
-                None => return true,
-            }
-        }
     }
 
     // The namespace name of an attribute's name: the default is not for attributes.
@@ -128,15 +110,16 @@ impl<'s, 'a> Scope<'s, 'a> {
         }
     }
 
-    // Whether no two attributes have one expanded name.
-    fn are_distinct(&self, attributes: Attributes<'a>) -> bool
-        ensures { result ≡ are_distinct (names_in (scope_in self.now) (attributes_left attributes.entry)) }
+    // Whether the declarations among attributes are sound, their names declared, and no two of one expanded name: "Reserved Prefixes and
+    // Namespace Names", "No Prefix Undeclaring", "Prefix Declared", "Attributes Unique".
+    fn has_sound_attributes(&self, attributes: Attributes<'a>) -> bool
+        ensures { result ≡ attributes_soundly (scope_in self.now) (attributes_left attributes.entry) }
     {
         let mut rest = attributes;
         'attributes: loop {
             match rest.first() {
                 Some((a, behind)) => {
-                    if !self.none_is(a, behind) {
+                    if !self.is_sound_attribute(a, behind) {
                         return false;
                     }
                     rest = behind;
@@ -146,28 +129,25 @@ impl<'s, 'a> Scope<'s, 'a> {
         }
     }
 
-    // Whether the declarations of the tag are sound, and its own name: "Reserved Prefixes and Namespace Names", "No Prefix Undeclaring".
-    fn has_sound_declarations(&self) -> bool
-        ensures { result ≡ declares_soundly (tags_around self.now.outer.now) (tag_in self.now.tag) }
+    // Whether an attribute is, before those behind it.
+    fn is_sound_attribute(&self, a: Attribute<'a>, behind: Attributes<'a>) -> bool
+        ensures { result ≡ attribute_soundly (scope_in self.now) (attribute_in a.entry) (attributes_left behind.entry) }
     {
-        let (prefix, _) = name_parts(self.tag.name);
-        are_sound_declarations(Attributes::of(self.tag.attributes))
-            && !is(prefix, "xmlns")
-            && self.is_declared(prefix)
+        is_sound_declaration(a) && self.is_declared(a.prefix) && self.none_is(a, behind)
     }
 
-    // Whether the names of its attributes are: "Prefix Declared", "Attributes Unique".
-    fn has_sound_attributes(&self) -> bool
-        ensures { result ≡ names_soundly (tags_around self.now.outer.now) (tag_in self.now.tag) }
+    // Whether the name of the tag is sound.
+    fn has_sound_name(&self) -> bool
+        ensures { result ≡ name_soundly (tags_around self.now.outer.now) (tag_in self.now.tag) }
     {
-        let attributes = Attributes::of(self.tag.attributes);
-        self.are_declared(attributes) && self.are_distinct(attributes)
+        let (prefix, _) = name_parts(self.tag.name);
+        !is(prefix, "xmlns") && self.is_declared(prefix)
     }
 
     // Whether the tag's names and declarations are sound: Namespaces in XML 1.0.
     pub(crate) fn is_sound(&self) -> bool
         ensures { result ≡ is_sound (tags_around self.now.outer.now) (tag_in self.now.tag) }
     {
-        self.has_sound_declarations() && self.has_sound_attributes()
+        self.has_sound_name() && self.has_sound_attributes(Attributes::of(self.tag.attributes))
     }
 }
