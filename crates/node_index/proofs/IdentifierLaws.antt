@@ -12,11 +12,11 @@ use Rattle.xml_items.proofs.AsciiTexts.{texts_same}
 use Rattle.doc_spans.specs.declared.documents.Doc.{Doc}
 use Rattle.doc_spans.specs.declared.documents.NodeId.{NodeId}
 use Rattle.doc_spans.specs.Seen.{Has, path_in}
-use Rattle.node_sets.specs.Answers.{answer_in, HasAnswer, with_one, with_more}
+use Rattle.node_sets.specs.Answers.{answer_in, HasAnswer, with_one, with_more, has_identifier_name}
 use Rattle.node_index.specs.declared.indices.NodeIndex.{NodeIndex}
 use Rattle.node_index.specs.declared.sightings.Sightings.{Sightings}
 use Rattle.node_index.specs.declared.sightings.Sightings.TheVariants.{Absent, One, Several}
-use Rattle.node_index.specs.Identifiers.{Finds, IsWithin, answer_of, has_identifier_name, may_identify, named_by}
+use Rattle.node_index.specs.Identifiers.{Finds, IsWithin, answer_of, may_identify, named_by}
 use Rattle.node_index.specs.Indices.{sighted, Adds}
 use Rattle.node_index.specs.Sightings.{with_node}
 

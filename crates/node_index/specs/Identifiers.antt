@@ -1,13 +1,13 @@
 -- What an index of the identifiers of a document has.
-use Rattle.std.specs.Prelude.{◌≡◌, ℕ, Bool, not, ◌&&◌, ◌||◌, List, codes}
+use Rattle.std.specs.Prelude.{◌≡◌, ℕ, Bool, not, ◌&&◌, List}
 use Rattle.std.specs.Str.{chars, IsUtf8}
-use Rattle.document_model.specs.Characters.{◌is◌, is_empty}
+use Rattle.document_model.specs.Characters.{is_empty}
 use Rattle.document_model.specs.Items.{Attribute}
 use Rattle.document_model.specs.NodeSets.{target_of}
 use Rattle.document_model.specs.Tree.{Path}
 use Rattle.doc_spans.specs.declared.documents.Doc.{Doc}
 use Rattle.doc_spans.specs.Seen.{document_in}
-use Rattle.node_sets.specs.Answers.{answer_in, HasAnswer, with_more}
+use Rattle.node_sets.specs.Answers.{answer_in, HasAnswer, has_identifier_name, with_more}
 use Rattle.node_sets.specs.declared.identifiers.IdAnswer.{IdAnswer}
 use Rattle.node_sets.specs.declared.identifiers.IdAnswer.TheVariants as answers
 use Rattle.node_index.specs.declared.identifiers.Identifiers.{Identifiers}
@@ -15,10 +15,6 @@ use Rattle.node_index.specs.declared.indices.NodeIndex.{NodeIndex}
 use Rattle.node_index.specs.declared.sightings.Sightings.{Sightings}
 use Rattle.node_index.specs.declared.sightings.Sightings.TheVariants.{Absent, One, Several}
 use Rattle.node_index.specs.Indices.{sighted}
-
--- the local names of identifiers
-abbrev pub has_identifier_name : Attribute → Bool
-has_identifier_name a = (a.name.local is codes "Id") || (a.name.local is codes "ID") || (a.name.local is codes "id")
 
 -- whether an attribute is an identifier, whichever its value
 abbrev pub may_identify : Attribute → Bool

@@ -7,22 +7,21 @@ ghost use Rattle.xml_items.specs.Attributes.{attribute_in, attributes_left};
 ghost use Rattle.doc_spans.specs.declared.documents.Doc.{Doc};
 ghost use Rattle.doc_spans.specs.Seen.{Has, document_in, path_in};
 ghost use Rattle.node_sets.specs.Answers.{answer_in, HasAnswer, identified_at};
-ghost use Rattle.node_index.specs.Identifiers.{Finds, IsWithin, AreOf, answer_of, has_identifier_name, may_identify};
+ghost use Rattle.node_index.specs.Identifiers.{Finds, IsWithin, AreOf, answer_of, may_identify};
 
 use crate::indices::NodeIndex;
 use crate::sightings::Sightings;
 use crate::texts::gathered;
 use doc_spans::{Doc, NodeId, Pieces};
-use node_sets::IdAnswer;
+use node_sets::{IdAnswer, is_identifier_name};
 use std::alloc::Global;
 use xa_io::OutOfMemory;
 use xml_items::attribute_walk::{Attribute, Attributes};
-use xml_items::texts::{is, is_empty};
+use xml_items::texts::is_empty;
 use xml_items::value_texts::is_empty_value;
 
-/// Which elements of a document have which identifiers: attributes `Id`, `ID` and `id` without prefix, with a value that isn't empty. So
-/// many names are this project's own choice: without a schema or a DTD no attribute is of the type ID (XML Signature 1.1,
-/// section 4.4.3.2).
+/// Which elements of a document have which identifiers: attributes without prefix whose name `is_identifier_name` of `node_sets` knows, with
+/// a value that isn't empty.
 #[derive(Drop)]
 pub struct Identifiers {
     index: NodeIndex,
@@ -58,13 +57,6 @@ fn answer_of(found: Sightings) -> IdAnswer
         Sightings::One(node) => IdAnswer::One(node),
         Sightings::Several { .. } => IdAnswer::Many,
     }
-}
-
-/// Whether an attribute may be an identifier by its local name.
-pub fn is_identifier_name(a: Attribute<'_>) -> bool
-    ensures { result ≡ has_identifier_name (attribute_in a.entry) }
-{
-    is(a.local, "Id") || is(a.local, "ID") || is(a.local, "id")
 }
 
 // Whether an attribute is an identifier.

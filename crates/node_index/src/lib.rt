@@ -7,7 +7,7 @@ mod indices;
 mod sightings;
 mod texts;
 
-pub use identifiers::{Identifiers, is_identifier_name};
+pub use identifiers::Identifiers;
 pub use indices::NodeIndex;
 pub use sightings::Sightings;
 pub use texts::{fragment, gathered};

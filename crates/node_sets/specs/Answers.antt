@@ -1,6 +1,8 @@
 -- What an answer on an identifier means, and how it grows by one element after another.
-use Rattle.std.specs.Prelude.{ℕ, List, [], ◌∷◌}
+use Rattle.std.specs.Prelude.{ℕ, Bool, ◌||◌, List, [], ◌∷◌, codes}
 use Rattle.std.specs.Option.{option_map_or}
+use Rattle.document_model.specs.Characters.{◌is◌}
+use Rattle.document_model.specs.Items.{Attribute}
 use Rattle.document_model.specs.Tree.{Path}
 use Rattle.document_model.specs.NodeSets.{Target, Missing, Single, Double, identified_in}
 use Rattle.doc_spans.specs.declared.documents.Doc.{Doc}
@@ -8,6 +10,10 @@ use Rattle.doc_spans.specs.declared.documents.NodeId.{NodeId}
 use Rattle.doc_spans.specs.Seen.{Has, path_in, node_in}
 use Rattle.node_sets.specs.declared.identifiers.IdAnswer.{IdAnswer}
 use Rattle.node_sets.specs.declared.identifiers.IdAnswer.TheVariants.{One, Absent, Many}
+
+-- whether an attribute may be an identifier by its local name
+abbrev pub has_identifier_name : Attribute → Bool
+has_identifier_name a = (a.name.local is codes "Id") || (a.name.local is codes "ID") || (a.name.local is codes "id")
 
 abbrev pub answer_in : Doc → IdAnswer → Target
 answer_in doc (One node) = Single (path_in doc node)

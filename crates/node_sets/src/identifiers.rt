@@ -1,12 +1,11 @@
 //! Identifiers: which element an `Id` names.
 
-ghost use Rattle.std.specs.Prelude.{◌≡◌, ◌||◌, codes};
+ghost use Rattle.std.specs.Prelude.{◌≡◌};
 ghost use Rattle.std.specs.Str.{chars};
-ghost use Rattle.document_model.specs.Characters.{◌is◌};
 ghost use Rattle.document_model.specs.NodeSets.{is_identifier, once_each, target_of};
 ghost use Rattle.xml_items.specs.Attributes.{attribute_in, attributes_left};
 ghost use Rattle.doc_spans.specs.Seen.{Has, document_in, path_in};
-ghost use Rattle.node_sets.specs.Answers.{answer_in, HasAnswer, with_one, with_more, identified_at};
+ghost use Rattle.node_sets.specs.Answers.{answer_in, HasAnswer, with_one, with_more, identified_at, has_identifier_name};
 
 use doc_spans::{Doc, NodeId, Pieces};
 use xml_items::attribute_walk::{Attribute, Attributes};
@@ -23,9 +22,10 @@ pub enum IdAnswer {
     Many,
 }
 
-// Whether an attribute may be an identifier by its name: the project's own choice.
-fn is_identifier_name(a: Attribute<'_>) -> bool
-    ensures { result ≡ (((attribute_in a.entry).name.local is codes "Id") || ((attribute_in a.entry).name.local is codes "ID") || ((attribute_in a.entry).name.local is codes "id")) }
+/// Whether an attribute may be an identifier by its local name, `Id`, `ID` or `id`. So many names are this project's own choice: without a
+/// schema or a DTD no attribute is of the type ID (XML Signature 1.1, section 4.4.3.2).
+pub fn is_identifier_name(a: Attribute<'_>) -> bool
+    ensures { result ≡ has_identifier_name (attribute_in a.entry) }
 {
     is(a.local, "Id") || is(a.local, "ID") || is(a.local, "id")
 }

@@ -6,7 +6,7 @@ mod identifiers;
 mod scopes;
 mod sets;
 
-pub use identifiers::{IdAnswer, find_id};
+pub use identifiers::{IdAnswer, find_id, is_identifier_name};
 pub use scopes::{attribute, in_scope, is_named};
 pub use sets::NodeSet;
 

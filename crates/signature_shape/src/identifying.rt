@@ -12,7 +12,7 @@ ghost use Rattle.signature_model.specs.Spots.{attributes_in};
 ghost use Rattle.signature_model.specs.Vocabulary.{fragment};
 
 use doc_spans::{Doc, NodeId, Pieces};
-use node_index::is_identifier_name;
+use node_sets::is_identifier_name;
 use signature_elements::{attribute, points_to};
 use xml_items::attribute_walk::{Attribute, Attributes};
 use xml_items::texts::is_empty;

@@ -1,12 +1,10 @@
 -- The search, word by word.
-use Rattle.std.proofs.Common.{◌≡◌, ℕ, zero, suc, ◌+◌, ◌-◌, ◌<◌, ◌^◌, List, [], ◌∷◌, ◌++◌, map, length, drop, get_or, Bool, true, false, ◌&&◌, ◌==◌, nat_lt, refl, sym, ◌∙◌, ap, subst, arith, if◌then◌else◌}
+use Rattle.std.proofs.Common.{◌≡◌, ℕ, ◌+◌, ◌<◌, ◌^◌, List, [], ◌∷◌, ◌++◌, map, length, drop, get_or, Bool, true, false, ◌&&◌, ◌==◌, nat_lt, refl, sym, ◌∙◌, ap, subst, arith}
 use Rattle.std.specs.Prelude.{Option, Some, None, Result, Ok, Err, IfOk, MatchOption}
 use Rattle.std.proofs.lemmas.Bool.{ltb-true}
 use Rattle.std.proofs.lemmas.List.{drop_more}
 use Rattle.word_patterns.specs.Grammar.{Part, FitsOne, IsFaultyWord, lowered, only_if, behind, behind_one, is_none, is_of_one, faulty_from}
 use Rattle.word_patterns.specs.Good.{AllGood, AreFew, room}
-use Rattle.word_patterns.specs.Patterns.{cursor_in, cursors_in}
-use Rattle.word_patterns.specs.declared.search.Cursor.{Cursor}
 use Rattle.word_patterns.proofs.GrammarLemmas.{fitting_words, faulty_word, and_left}
 
 -- No pattern takes too many words.

@@ -2,3 +2,4 @@ mod Cursors
 pub mod GrammarLemmas
 mod KeyTexts
 mod PrefixTexts
+mod TextsBehind

@@ -1,5 +1,6 @@
 -- Grammars of command lines: the words of a command are a pattern of parts, of which some may be absent or stand several times.
 use Rattle.std.specs.Prelude.{◌≡◌, ◌⊎◌, ℕ, ◌+◌, ◌-◌, ◌≤◌, List, [], ◌∷◌, ◌++◌, length, take, drop, Bool, true, false, ◌&&◌, ◌==◌, nat_lt, nat_eq, Option, None, Some, if◌then◌else◌}
+use Rattle.std.specs.Borrow.{Bor}
 use Rattle.std.specs.List.{starts_with}
 use Rattle.std.specs.Str.{bytes_eq}
 
@@ -71,6 +72,16 @@ pub record IsFaultyWord (patterns : List (List Part)) (words : List (List ℕ)) 
 abbrev pub text_behind : List ℕ → List (List ℕ) → List ℕ
 text_behind key [] = []
 text_behind key (word ∷ words) = if starts_with nat_eq word key then drop (length key) word else text_behind key words
+
+-- and the texts behind a key, in each word that begins with it
+abbrev pub texts_behind : List ℕ → List (List ℕ) → List (List ℕ)
+texts_behind key [] = []
+texts_behind key (word ∷ words) =
+    if starts_with nat_eq word key then drop (length key) word ∷ texts_behind key words else texts_behind key words
+
+-- a text that is lent
+abbrev pub text_now : Bor (List ℕ) → List ℕ
+text_now text = text.now
 
 -- The faulty word, found word by word: each leaves of a pattern what may stand behind it.
 

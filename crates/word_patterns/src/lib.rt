@@ -7,7 +7,7 @@ mod patterns;
 mod search;
 mod text_forms;
 
-pub use lookup::text_behind;
+pub use lookup::{text_behind, texts_behind};
 pub use patterns::{Part, WordForm};
 pub use search::faulty_word;
 pub use text_forms::TextForm;

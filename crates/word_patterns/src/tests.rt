@@ -1,6 +1,6 @@
 //! Which words fit, on a small pattern.
 
-use crate::{Part, TextForm, WordForm, faulty_word, text_behind};
+use crate::{Part, TextForm, WordForm, faulty_word, text_behind, texts_behind};
 use std::test::Fail;
 
 // one or two files, and then perhaps `end`
@@ -57,5 +57,15 @@ fn words_and_patterns(rt: HostRuntime) -> Result<(), Fail> {
     let words = words_of(&rt, &["file=a", "file=b"])?;
     assert_eq!(rt; text_behind("file=", words.as_slice()), "a");
     assert_eq!(rt; text_behind("end", words.as_slice()), "");
+    Ok(())
+}
+
+#[test]
+fn several_texts_behind_a_key(rt: HostRuntime) -> Result<(), Fail> {
+    let words = words_of(&rt, &["file=a", "end", "file=", "fil=c", "file=b"])?;
+    let Ok(texts) = texts_behind(rt.alloc(), "file=", words.as_slice()) else {
+        return Err(Fail::new("no memory"));
+    };
+    assert_eq!(rt; texts.as_slice(), ["a", "", "b"].as_slice());
     Ok(())
 }

@@ -4,7 +4,8 @@ use Rattle.std.specs.List.{remove}
 use Rattle.document_model.specs.Canonical.{Form}
 use Rattle.std.specs.Prelude.{Option}
 use Rattle.signature_model.specs.Chains.{Handed}
-use Rattle.xades_cli.specs.Asked.{AskedCanon, AskedOctets, asked_of, text_now}
+use Rattle.word_patterns.specs.Grammar.{text_now}
+use Rattle.xades_cli.specs.Asked.{AskedCanon, AskedOctets, asked_of}
 use Rattle.xades_cli.specs.Commands.{document_want, external_want, outcome_of, wants_of}
 use Rattle.xades_cli.specs.Computed.{IsComputed}
 use Rattle.xades_cli.specs.Outcomes.{canon_outcome}

@@ -1,4 +1,3 @@
-pub mod AskedLemmas
 pub mod SameHanded
 pub mod CommandLemmas
 pub mod OctetLemmas

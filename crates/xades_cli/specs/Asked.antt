@@ -1,12 +1,11 @@
 -- What the words of a command ask.
-use Rattle.std.specs.Prelude.{ℕ, List, [], ◌∷◌, Bool, false, map, codes, drop, length, nat_eq, Option, None, Some, if◌then◌else◌}
+use Rattle.std.specs.Prelude.{ℕ, List, [], ◌∷◌, Bool, false, map, codes, Option, None, Some, if◌then◌else◌}
 use Rattle.std.specs.Borrow.{Bor}
-use Rattle.std.specs.List.{starts_with}
 use Rattle.std.specs.Str.{chars}
 use Rattle.document_model.specs.Characters.{◌is◌}
 use Rattle.document_model.specs.Canonical.{Form, Inclusive, Exclusive}
 use Rattle.document_model.specs.Methods.{words_at, prefix_named}
-use Rattle.word_patterns.specs.Grammar.{text_behind}
+use Rattle.word_patterns.specs.Grammar.{text_behind, texts_behind, text_now}
 use Rattle.word_patterns.specs.TextForms.{is_comma}
 use Rattle.xades_cli.specs.declared.words.Command.{Command}
 use Rattle.xades_cli.specs.declared.words.Command.TheVariants.{Canon, Octets}
@@ -35,12 +34,6 @@ form_by inclusive prefixes comments = record {
 abbrev pub form_asked : List (List ℕ) → Form
 form_asked words = form_by (text_behind (codes "form=") words is codes "inclusive") (text_behind (codes "prefixes=") words) (text_behind (codes "comments=") words is codes "yes")
 
--- the texts behind a key, in each word that begins with it
-abbrev pub texts_behind : List ℕ → List (List ℕ) → List (List ℕ)
-texts_behind key [] = []
-texts_behind key (word ∷ words) =
-    if starts_with nat_eq word key then drop (length key) word ∷ texts_behind key words else texts_behind key words
-
 -- whether a command goes by a name, which is its first word
 abbrev pub goes_by : List ℕ → List (List ℕ) → Bool
 goes_by name [] = false
@@ -60,9 +53,6 @@ form_of method = form_by method.inclusive method.prefixes.now method.comments
 abbrev pub option_now : Option (Bor (List ℕ)) → Option (List ℕ)
 option_now None = None
 option_now (Some text) = Some text.now
-
-abbrev pub text_now : Bor (List ℕ) → List ℕ
-text_now text = text.now
 
 -- what a command of the program asks
 abbrev pub asked_of : Command → Asked

@@ -1,6 +1,7 @@
 // What a command comes to by the bytes of its files.
 ghost use Rattle.std.specs.Prelude.{◌≡◌, ◌<◌, ◌≤◌, ◌++◌, ◌∷◌, [], ◌^◌, ℕ, List, length, map, All, IfOk, OnOk, string_bytes};
-ghost use Rattle.xades_cli.specs.Asked.{asked_of, text_now};
+ghost use Rattle.word_patterns.specs.Grammar.{text_now};
+ghost use Rattle.xades_cli.specs.Asked.{asked_of};
 ghost use Rattle.xades_cli.specs.Commands.{document_want, external_want, outcome_of, wants_of};
 ghost use Rattle.xades_cli.specs.Wanted.{want_of, AreWithin};
 ghost use Rattle.xades_cli.specs.Computed.{IsComputed};

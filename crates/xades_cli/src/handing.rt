@@ -1,7 +1,7 @@
 // Files that are handed in for References.
 ghost use Rattle.std.specs.Prelude.{◌≡◌, ℕ, List, length, map, IfOk};
 ghost use Rattle.reference_chains.specs.HandedIn.{handed_in};
-ghost use Rattle.xades_cli.specs.Asked.{text_now};
+ghost use Rattle.word_patterns.specs.Grammar.{text_now};
 ghost use Rattle.xades_cli.specs.Signing.{handed_by};
 
 use references::Externals;

@@ -1,12 +1,12 @@
 // The words of the command line.
-ghost use Rattle.std.specs.Prelude.{◌≡◌, ◌∷◌, ◌++◌, List, [], map, string_bytes, IfOk, OnOk, MatchOption, MatchResult};
+ghost use Rattle.std.specs.Prelude.{◌≡◌, List, map, string_bytes, IfOk, MatchOption, MatchResult};
 ghost use Rattle.word_patterns.specs.Grammar.{IsFaultyWord};
-ghost use Rattle.xades_cli.specs.Asked.{asked_by, asked_of, form_of, form_asked, goes_by, if_any, option_now, text_now, texts_behind};
+ghost use Rattle.xades_cli.specs.Asked.{asked_by, asked_of, form_of, form_asked, goes_by, if_any, option_now};
 ghost use Rattle.xades_cli.specs.Words.{patterns, IsCommand, IsWordFault};
 
 use crate::status::Status;
 use std::alloc::Global;
-use word_patterns::{Part, TextForm, WordForm, faulty_word, text_behind};
+use word_patterns::{Part, TextForm, WordForm, faulty_word, text_behind, texts_behind};
 use xa_io::OutOfMemory;
 
 /// How a canonical form is named.
@@ -132,34 +132,6 @@ fn if_any<'a>(text: &'a str) -> Option<&'a str>
     ensures { option_now result ≡ if_any text.now }
 {
     if text.is_empty() { None } else { Some(text) }
-}
-
-// Puts the text behind the key, where the word begins with it.
-fn push_behind<'a>(texts: &mut Vec<&'a str>, key: &str, word: &'a str) -> Result<(), OutOfMemory>
-    ensures { OnOk result (map text_now texts.new.items ≡ map text_now texts.old.items ++ texts_behind key.now (word.now ∷ [])) }
-{
-    let Some(text) = word.strip_prefix(key) else {
-        return Ok(());
-    };
-    match texts.push(text) {
-        Ok(()) => Ok(()),
-        Err(_) => Err(OutOfMemory),
-    }
-}
-
-// The texts behind the key, in each word that begins with it.
-fn texts_behind<'a>(
-    alloc: Global,
-    key: &str,
-    words: &'a [String],
-) -> Result<Vec<&'a str>, OutOfMemory>
-    ensures { IfOk result (λ texts. map text_now texts.items ≡ texts_behind key.now (map string_bytes words.now)) }
-{
-    let mut texts = Vec::new(alloc);
-    for word in words {
-        push_behind(&mut texts, key, word.as_str())?;
-    }
-    Ok(texts)
 }
 
 // Whether the words are those of the command with a name.

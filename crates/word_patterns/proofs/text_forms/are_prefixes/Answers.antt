@@ -1,5 +1,4 @@
-use Rattle.std.proofs.Common.{◌≡◌, ◌∙◌, sym}
-use Rattle.std.specs.Str.{chars}
+use Rattle.std.proofs.Common.{◌∙◌, sym}
 use Rattle.word_patterns.proofs.PrefixTexts.{stray, last_one, goes_on}
 use Rattle.word_patterns.proofs.text_forms.are_prefixes.Goals as goal
 

@@ -1,6 +1,6 @@
 use Rattle.std.proofs.Common.{◌≡◌, ◌∷◌, map}
 use Rattle.reference_chains.specs.HandedIn.{handed_in}
-use Rattle.xades_cli.specs.Asked.{text_now}
+use Rattle.word_patterns.specs.Grammar.{text_now}
 use Rattle.xades_cli.specs.Commands.{document_want, external_want}
 use Rattle.xades_cli.specs.Wanted.{AreWithin}
 use Rattle.xades_cli.proofs.CommandLemmas.{as_many, first_removed, first_within, octets_come, some_file}

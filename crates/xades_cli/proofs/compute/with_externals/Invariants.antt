@@ -1,6 +1,6 @@
 use Rattle.std.proofs.Common.{◌≡◌, ◌<◌, ◌^◌, ◌∷◌, take, map}
 use Rattle.std.specs.List.{All}
-use Rattle.xades_cli.specs.Asked.{text_now}
+use Rattle.word_patterns.specs.Grammar.{text_now}
 use Rattle.xades_cli.specs.Commands.{document_want, external_want}
 use Rattle.xades_cli.specs.Wanted.{want_of}
 use Rattle.xades_cli.proofs.compute.with_externals.Given as goal

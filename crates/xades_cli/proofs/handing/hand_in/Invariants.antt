@@ -1,6 +1,6 @@
 use Rattle.std.proofs.Common.{◌≡◌, ℕ, ◌+◌, List, length, drop, map}
 use Rattle.reference_chains.specs.HandedIn.{handed_in, or_else}
-use Rattle.xades_cli.specs.Asked.{text_now}
+use Rattle.word_patterns.specs.Grammar.{text_now}
 use Rattle.xades_cli.specs.Signing.{handed_by}
 use Rattle.xades_cli.proofs.handing.hand_in.Given as goal
 

@@ -1,6 +1,6 @@
 use Rattle.std.proofs.Common.{◌≡◌, take, map, string_bytes}
-use Rattle.xades_cli.specs.Asked.{text_now, texts_behind}
-use Rattle.xades_cli.proofs.words.texts_behind.Given as goal
+use Rattle.word_patterns.specs.Grammar.{text_now, texts_behind}
+use Rattle.word_patterns.proofs.lookup.texts_behind.Given as goal
 
 -- the texts of the words so far
 abbrev pub invariant-loop-word : goal.invariant-loop-word
