@@ -18,6 +18,11 @@ use Rattle.doc_spans.specs.ReadAs.{read_by, is_literal, is_readable}
 
 -- A run.
 
+-- as they are written, all characters are
+pub all_literal : (cs : List ℕ) → span (is_literal AsWritten) cs ≡ (cs, [])
+all_literal [] = refl
+all_literal (c ∷ cs) = ap (λ x. (c ∷ x.0, x.1)) (all_literal cs)
+
 -- the first part is read as it stands, and then the second one
 pub record Splits (reading : Reading) (cs front behind : List ℕ) : Type 0 where
   pub read : read_by reading cs ≡ front ++ read_by reading behind

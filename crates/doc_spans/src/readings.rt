@@ -6,7 +6,7 @@ ghost use Rattle.document_model.specs.Characters.{span, with_line_ends};
 ghost use Rattle.doc_spans.specs.ReadAs.{is_literal, is_readable};
 
 use crate::texts::Piece;
-use xml_items::classes::first;
+use xml_items::classes::{Class, first, front};
 use xml_items::value_texts::first_of_value;
 
 // How the characters of a text are read.
@@ -66,30 +66,16 @@ impl<'a> Front<'a> {
     }
 }
 
-// Whether a character is read as it stands.
-fn is_literal(reading: Reading, c: char) -> bool
-    ensures { result ≡ is_literal reading c }
-{
-    match reading {
-        Reading::AsWritten => true,
-        Reading::LineEnds => c != '\r',
-        Reading::Value => !matches!(c as u32, 0x9..=0xA | 0xD | 0x26),
-    }
-}
-
 // The longest front of characters that are read as they stand, and what is behind it.
 fn literal_front<'a>(text: &'a str, reading: Reading) -> (&'a str, &'a str)
     ensures split { span (is_literal reading) (chars text.now) ≡ (chars result.0.now, chars result.1.now) }
     ensures joined { result.0.now ++ result.1.now ≡ text.now }
     ensures behind_utf8 { IsUtf8 result.1.now }
 {
-    let mut rest = text.chars();
-    loop {
-        let behind = rest.as_str();
-        match rest.next() {
-            Some(c) if is_literal(reading, c) => {}
-            _ => return text.split_at(text.len() - behind.len()),
-        }
+    match reading {
+        Reading::AsWritten => (text, ""),
+        Reading::LineEnds => front(text, Class::Except('\r')),
+        Reading::Value => front(text, Class::InValue),
     }
 }
 

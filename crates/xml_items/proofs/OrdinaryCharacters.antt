@@ -127,3 +127,20 @@ pub ordinary_piece : (b : ℕ) (behind : List ℕ) → is_ordinary b ≡ true �
 ordinary_piece b behind e =
     let h = ordinary_is b e in
     piece_of (b ∷ behind) (b ∷ []) CharacterKind 1 (Some (character b)) (sym (kind b behind h)) (one_byte b behind h) (alone b h) (literal b h)
+
+-- and so is CR LF, which is read as LF
+
+line_end_characters : characters (0xD ∷ 0xA ∷ []) ≡ Some (0xD ∷ 0xA ∷ [])
+line_end_characters =
+    let text : List ℕ = 0xD ∷ 0xA ∷ [] in
+    ap (λ t. cond (t && list_all is_char (chars text)) (Some (chars text)) None) (is_utf8-from_IsUtf8 text (IsUtf8-from_ascii text ascii))
+    ∙ ap (λ x. cond (list_all is_char x) (Some x) None) (chars-IsAscii text ascii)
+  where
+    ascii : IsAscii (0xD ∷ 0xA ∷ [])
+    ascii zero = omega arith
+    ascii (suc zero) = omega arith
+    ascii (suc (suc i)) = omega arith
+
+pub line_end_piece : (behind : List ℕ) → piece_at (0xD ∷ 0xA ∷ behind) ≡ Some (record { text = 0xD ∷ 0xA ∷ []; item = character 0xA }, behind)
+line_end_piece behind =
+    piece_of (0xD ∷ 0xA ∷ behind) (0xD ∷ 0xA ∷ []) CharacterKind 2 (Some (character 0xA)) refl refl line_end_characters refl

@@ -20,6 +20,8 @@ pub enum Class {
     Decimal,
     Hexadecimal,
     NotWhite,
+    // What stands for itself in an attribute value.
+    InValue,
 }
 
 #[inline(always)]
@@ -37,6 +39,7 @@ pub fn has(class: Class, c: char) -> bool
         Class::Only(d) => c == d,
         Class::Quote => n == 0x22 || n == 0x27,
         Class::NotWhite => !matches!(n, 0x9..=0xA | 0xD | 0x20),
+        Class::InValue => !matches!(n, 0x9..=0xA | 0xD | 0x26),
         Class::Decimal => matches!(n, 0x30..=0x39),
         Class::Hexadecimal => matches!(n, 0x30..=0x39 | 0x41..=0x46 | 0x61..=0x66),
     }

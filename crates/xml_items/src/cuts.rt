@@ -19,20 +19,14 @@ pub enum Kind {
 pub fn kind_at(bytes: &[u8]) -> Kind
     ensures { kind_of result ≡ kind_at bytes.now }
 {
-    if bytes.starts_with(b"<!--") {
-        Kind::Comment
-    } else if bytes.starts_with(b"<![CDATA[") {
-        Kind::Cdata
-    } else if bytes.starts_with(b"<?") {
-        Kind::Instruction
-    } else if bytes.starts_with(b"</") {
-        Kind::EndTag
-    } else if bytes.starts_with(b"<") {
-        Kind::Tag
-    } else if bytes.starts_with(b"&") {
-        Kind::Reference
-    } else {
-        Kind::Character
+    match bytes {
+        [b'<', b'/', ..] => Kind::EndTag,
+        [b'<', b'?', ..] => Kind::Instruction,
+        [b'<', ..] if bytes.starts_with(b"<!--") => Kind::Comment,
+        [b'<', ..] if bytes.starts_with(b"<![CDATA[") => Kind::Cdata,
+        [b'<', ..] => Kind::Tag,
+        [b'&', ..] => Kind::Reference,
+        _ => Kind::Character,
     }
 }
 

@@ -5,7 +5,7 @@ ghost use Rattle.document_model.specs.Characters.{span};
 ghost use Rattle.xml_items.specs.Runs.{is_ordinary};
 
 // Whether a byte is a character that stands for itself wherever a text goes on.
-fn is_ordinary(byte: u8) -> bool
+pub(crate) fn is_ordinary(byte: u8) -> bool
     ensures { result ≡ is_ordinary byte }
 {
     matches!(byte, 0x9..=0xA | 0x20..=0x25 | 0x27..=0x3B | 0x3D | 0x3F..=0x5C | 0x5E..=0x7E)

@@ -7,6 +7,7 @@ ghost use Rattle.xml_items.specs.Spans.{IsPlaced};
 
 use crate::cuts::{Kind, cut, kind_at};
 use crate::items::{Found, item_of, known_start_tag};
+use crate::runs::is_ordinary;
 use crate::texts::characters;
 
 // An item, and where it ends.
@@ -18,6 +19,43 @@ pub struct Scanned<'a> {
 
 // The item that begins at a place, if one stands there.
 pub fn next_item<'a>(bytes: &'a [u8], at: usize) -> Option<Scanned<'a>>
+    requires { at ≤ length bytes.now }
+    ensures item { piece_at (drop at bytes.now) ≡ option_map (piece_in bytes.now at) result }
+    ensures placed { IfSome result (λ scanned. IsPlaced (take (scanned.end - at) (drop at bytes.now)) scanned.found) }
+    ensures read { IfSome result (λ scanned. IsRead scanned.found) }
+    ensures within { IfSome result (λ scanned. (at < scanned.end) × (scanned.end ≤ length bytes.now)) }
+{
+    match short_item(bytes, at) {
+        Some(scanned) => Some(scanned),
+        None => scan(bytes, at),
+    }
+}
+
+// A character that stands for itself, or CR LF: most items that aren't markup are known by a byte or two.
+fn short_item<'a>(bytes: &'a [u8], at: usize) -> Option<Scanned<'a>>
+    requires { at ≤ length bytes.now }
+    ensures item { IfSome result (λ scanned. piece_at (drop at bytes.now) ≡ Some (piece_in bytes.now at scanned)) }
+    ensures placed { IfSome result (λ scanned. IsPlaced (take (scanned.end - at) (drop at bytes.now)) scanned.found) }
+    ensures read { IfSome result (λ scanned. IsRead scanned.found) }
+    ensures within { IfSome result (λ scanned. (at < scanned.end) × (scanned.end ≤ length bytes.now)) }
+{
+    if at < bytes.len() && is_ordinary(bytes[at]) {
+        return Some(Scanned {
+            found: Found::Character(bytes[at] as char),
+            end: at + 1,
+        });
+    }
+    if at + 1 < bytes.len() && bytes[at] == b'\r' && bytes[at + 1] == b'\n' {
+        return Some(Scanned {
+            found: Found::Character('\n'),
+            end: at + 2,
+        });
+    }
+    None
+}
+
+// The item that begins at a place, by its kind and its end.
+fn scan<'a>(bytes: &'a [u8], at: usize) -> Option<Scanned<'a>>
     requires { at ≤ length bytes.now }
     ensures item { piece_at (drop at bytes.now) ≡ option_map (piece_in bytes.now at) result }
     ensures placed { IfSome result (λ scanned. IsPlaced (take (scanned.end - at) (drop at bytes.now)) scanned.found) }

@@ -5,7 +5,7 @@ use Rattle.xml_items.specs.Kinds.{kind_of}
 use Rattle.xml_items.specs.Items.{item_in}
 use Rattle.xml_items.specs.Spans.{IsPlaced}
 use Rattle.xml_items.proofs.Pieces.{no_piece, piece_of, same_places, item_has}
-use Rattle.xml_items.proofs.scanner.next_item.Goals as goal
+use Rattle.xml_items.proofs.scanner.scan.Goals as goal
 
 pub returns-in-Some-item_of-clause-item : goal.returns-in-Some-item_of-clause-item
 returns-in-Some-item_of-clause-item c =
