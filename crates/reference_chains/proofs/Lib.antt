@@ -2,5 +2,4 @@ pub mod Words
 pub mod Files
 pub mod Steps
 pub mod HeldTexts
-pub mod Taken
 pub mod Meanings

@@ -6,3 +6,4 @@ pub mod DigestKinds
 pub mod References
 pub mod SetTexts
 pub mod Decoding
+pub mod Taken

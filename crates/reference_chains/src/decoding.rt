@@ -1,19 +1,16 @@
 //! The text of a set of nodes, decoded as base64.
 
-ghost use Rattle.std.specs.Prelude.{◌≡◌, ℕ, List, IfOk, OnOk};
+ghost use Rattle.std.specs.Prelude.{◌≡◌, ℕ, List, IfOk};
 ghost use Rattle.document_model.specs.NodeSets.{part};
-ghost use Rattle.doc_spans.specs.Pieces.{characters_in, characters_left};
-ghost use Rattle.doc_spans.specs.Seen.{Has, document_in, path_in};
+ghost use Rattle.doc_spans.specs.Seen.{document_in};
 ghost use Rattle.node_sets.specs.Sets.{set_in, doc_in};
-ghost use Rattle.canon_forms.specs.Writing.{IsReached};
 ghost use Rattle.signature_model.specs.Chains.{texts};
 ghost use Rattle.base64_texts.specs.Answers.{Decodes};
-ghost use Rattle.base64_texts.specs.Readings.{read_on, reading};
-ghost use Rattle.reference_chains.specs.SetTexts.{text_in, held_text_in, top_text};
+ghost use Rattle.base64_texts.specs.Scans.{scanned};
 ghost use Rattle.reference_chains.specs.Decoding.{decoded};
 
-use base64_texts::{Base64Fault, Decoder};
-use doc_spans::{Kind, NodeId, Piece, Pieces};
+use crate::set_texts::hand_on_set;
+use base64_texts::{Base64Fault, Decoder, Scanner};
 use node_sets::NodeSet;
 use std::alloc::Global;
 use xa_io::{Octs, OutOfMemory};
@@ -22,7 +19,8 @@ use xa_io::{Octs, OutOfMemory};
 pub(crate) fn decode_set(alloc: Global, set: &NodeSet<'_>) -> Result<Octs, OutOfMemory>
     ensures { IfOk result (λ octets. octets ≡ decoded (texts (part (set_in set.now) (document_in (doc_in set.now))))) }
 {
-    let decoder = read_set(alloc, set)?;
+    let mut decoder = Decoder::new(alloc);
+    hand_on_set(&mut decoder, set)?;
     or_none(alloc, decoder.finish())
 }
 
@@ -37,73 +35,13 @@ pub(crate) fn or_none(alloc: Global, found: Result<Octs, Base64Fault>) -> Result
     }
 }
 
-// A decoder that took the text of a set.
-fn read_set(alloc: Global, set: &NodeSet<'_>) -> Result<Decoder, OutOfMemory>
-    ensures { IfOk result (λ decoder. decoder ≡ reading (texts (part (set_in set.now) (document_in (doc_in set.now))))) }
+// A scanner that took the text of a set.
+pub(crate) fn scan_set(set: &NodeSet<'_>) -> Scanner
+    ensures { result ≡ scanned (texts (part (set_in set.now) (document_in (doc_in set.now)))) }
 {
-    let mut decoder = Decoder::new(alloc);
-    match set.apex() {
-        Some(apex) => read_held(&mut decoder, set, apex)?,
-        None => read_top(&mut decoder, set)?,
-    }
-    Ok(decoder)
-}
-
-// Takes the text of the nodes that the document holds, with what of them the set holds.
-fn read_top(decoder: &mut Decoder, set: &NodeSet<'_>) -> Result<(), OutOfMemory>
-    ensures { OnOk result (decoder.new ≡ read_on decoder.old (top_text (set_in set.now) (document_in (doc_in set.now)))) }
-{
-    for node in set.doc().top() {
-        read_held(decoder, set, node)?;
-    }
-    Ok(())
-}
-
-// Takes the text of a node with what of it the set holds, unless the set doesn't hold the node.
-fn read_held(decoder: &mut Decoder, set: &NodeSet<'_>, node: NodeId) -> Result<(), OutOfMemory>
-    requires { Has (doc_in set.now) node }
-    ensures { OnOk result (decoder.new ≡ read_on decoder.old (held_text_in set.now node)) }
-{
-    if set.has(node) {
-        return read_node(decoder, set, node);
-    }
-    Ok(())
-}
-
-// Takes the text of a node that the set reaches, with what of it the set holds.
-fn read_node(decoder: &mut Decoder, set: &NodeSet<'_>, node: NodeId) -> Result<(), OutOfMemory>
-    requires has { Has (doc_in set.now) node }
-    requires reached { IsReached (set_in set.now) (path_in (doc_in set.now) node) }
-    ensures { OnOk result (decoder.new ≡ read_on decoder.old (text_in set.now node)) }
-{
-    let doc = set.doc();
-    match doc.kind(node) {
-        Kind::Text => read_pieces(decoder, doc.text_pieces(node)),
-        _ => {
-            for child in doc.children(node) {
-                if !set.is_removed(child) {
-                    read_node(decoder, set, child)?;
-                }
-            }
-            Ok(())
-        }
-    }
-}
-
-fn read_pieces(decoder: &mut Decoder, pieces: Pieces<'_>) -> Result<(), OutOfMemory>
-    ensures { OnOk result (decoder.new ≡ read_on decoder.old (characters_left pieces.entry)) }
-{
-    for piece in pieces {
-        read_piece(decoder, piece)?;
-    }
-    Ok(())
-}
-
-fn read_piece(decoder: &mut Decoder, piece: Piece<'_>) -> Result<(), OutOfMemory>
-    ensures { OnOk result (decoder.new ≡ read_on decoder.old (characters_in piece.entry)) }
-{
-    match piece {
-        Piece::Run(text) => decoder.push(text),
-        Piece::One(c) => decoder.push_char(c),
+    let mut scanner = Scanner::new();
+    match hand_on_set(&mut scanner, set) {
+        Ok(()) => scanner,
+        Err(never) => match never {},
     }
 }

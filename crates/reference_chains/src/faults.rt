@@ -11,10 +11,10 @@ ghost use Rattle.reference_chains.specs.HandedIn.{handed_in};
 ghost use Rattle.reference_chains.specs.References.{IsReference};
 
 use crate::chains::Made;
+use crate::decoding::scan_set;
 use crate::externals::Externals;
 use crate::handing::handed_to;
 use crate::references::{Reference, node_set_of};
-use crate::scanning::scan_set;
 use base64_texts::Scanner;
 use doc_spans::{Doc, NodeId};
 

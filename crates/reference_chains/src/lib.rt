@@ -11,7 +11,8 @@ mod handing;
 mod octets;
 mod places;
 mod references;
-mod scanning;
+mod set_texts;
+mod takers;
 mod transforms;
 
 pub use chains::{Chain, Made, chain_of};

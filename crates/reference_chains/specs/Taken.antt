@@ -1,5 +1,5 @@
 -- What a scanner and a decoder know behind one text after another.
-use Rattle.std.proofs.Common.{◌≡◌, ℕ, List, [], ◌∷◌, ◌++◌, refl}
+use Rattle.std.specs.Prelude.{◌≡◌, ℕ, List, [], ◌∷◌, ◌++◌, refl}
 use Rattle.base64_texts.specs.declared.scanner.Scanner.{Scanner}
 use Rattle.base64_texts.specs.Scans.{scan, scan_on}
 use Rattle.base64_texts.specs.Readings.{Reading, read, read_on}

@@ -10,14 +10,12 @@ use Rattle.doc_spans.proofs.Elements.{child_of}
 use Rattle.doc_spans.proofs.Shows.{outer_more}
 use Rattle.node_sets.specs.Sets.{set_in, doc_in}
 use Rattle.canon_forms.specs.Writing.{IsReached}
-use Rattle.base64_texts.specs.Scans.{scan_on}
 use Rattle.reference_chains.specs.SetTexts.{text_in}
 use Rattle.reference_chains.proofs.HeldTexts.{left, child_kept, child_removed, child_smaller, reached_child, none_left, other_node, taken_further}
-use Rattle.reference_chains.proofs.Taken.{scan_joined}
-use Rattle.reference_chains.proofs.scanning.+scan_node.Goals as goal
+use Rattle.reference_chains.proofs.set_texts.+hand_on_node.Goals as goal
 
-pub scan_node-requires : goal.scan_node-requires
-scan_node-requires t c =
+pub hand_on_node-requires : goal.hand_on_node-requires
+hand_on_node-requires g t c κs within =
     let set = set_in c.args.set.now in
     let doc = doc_in c.args.set.now in
     let path = path_in doc c.args.node in
@@ -27,11 +25,11 @@ scan_node-requires t c =
     let outer : IsReached set (outer_path (path_in doc c.in-Some.child)) = subst R (sym (ap outer_path next.at ∙ outer_more path i)) c.requires.reached in
     let P : ℕ → Type 0 = λ n. size_in doc c.in-Some.child < n in (
       subst P c.decreases (child_smaller doc c.args.node c.in-Some.child i _ c.requires.has next),
-      (next.within, reached_child set (path_in doc c.in-Some.child) next.node refl outer (sym c.is_removed.ensures ∙ c.if-not-is_removed.true)),
+      (within.0, (within.1, (next.within, reached_child set (path_in doc c.in-Some.child) next.node refl outer (sym c.is_removed.ensures ∙ c.if-not-is_removed.true)))),
     )
 
-pub loop-child-preserved-then-not-is_removed : goal.loop-child-preserved-then-not-is_removed
-loop-child-preserved-then-not-is_removed t c =
+pub loop-child-preserved-in-Continue-1 : goal.loop-child-preserved-in-Continue-1
+loop-child-preserved-in-Continue-1 g t c =
     let set = set_in c.args.set.now in
     let doc = doc_in c.args.set.now in
     let path = path_in doc c.args.node in
@@ -41,17 +39,17 @@ loop-child-preserved-then-not-is_removed t c =
     let R : Path → Type 0 = λ p. IsReached set p in
     let outer : IsReached set (outer_path (path_in doc c.in-Some.child)) = subst R (sym (ap outer_path next.at ∙ outer_more path i)) c.requires.reached in
     let P : ℕ → Type 0 = λ n. NameBelow doc path n (rest c.next.new.self) in
-    let Q : ℕ → Type 0 = λ n. scan_on c.scan_node.new.scanner (left set doc path n) ≡ scan_on c.args.scanner.now (left set doc path 0) in (
+    let Q : ℕ → Type 0 = λ n. g.T.TakesText.after c.hand_on_node.new.taker (left set doc path n) ≡ g.T.TakesText.after c.args.taker.now (left set doc path 0) in (
       tt,
       tt,
       subst P more next.later,
-      subst Q more (taken_further scan_on c.loop-child.scanner c.scan_node.new.scanner (scan_on c.args.scanner.now (left set doc path 0)) (left set doc path i)
-          (text_in c.args.set.now c.in-Some.child) (left set doc path (suc i)) scan_joined c.scan_node.ensures
+      subst Q more (taken_further g.T.TakesText.after c.loop-child.taker c.hand_on_node.new.taker (g.T.TakesText.after c.args.taker.now (left set doc path 0)) (left set doc path i)
+          (text_in c.args.set.now c.in-Some.child) (left set doc path (suc i)) g.T.TakesText.joined c.in_ok-hand_on_node-in_default.ensures
           (child_kept set doc path i c.in-Some.child _ next refl outer (sym c.is_removed.ensures ∙ c.if-not-is_removed.true)) c.loop-child.invariant.3),
     )
 
 pub loop-child-preserved : goal.loop-child-preserved
-loop-child-preserved t c =
+loop-child-preserved g t c =
     let set = set_in c.args.set.now in
     let doc = doc_in c.args.set.now in
     let path = path_in doc c.args.node in
@@ -61,19 +59,20 @@ loop-child-preserved t c =
     let R : Path → Type 0 = λ p. IsReached set p in
     let outer : IsReached set (outer_path (path_in doc c.in-Some.child)) = subst R (sym (ap outer_path next.at ∙ outer_more path i)) c.requires.reached in
     let P : ℕ → Type 0 = λ n. NameBelow doc path n (rest c.next.new.self) in
-    let Q : ℕ → Type 0 = λ n. scan_on c.loop-child.scanner (left set doc path n) ≡ scan_on c.args.scanner.now (left set doc path 0) in (
+    let Q : ℕ → Type 0 = λ n. g.T.TakesText.after c.loop-child.taker (left set doc path n) ≡ g.T.TakesText.after c.args.taker.now (left set doc path 0) in (
       tt,
       tt,
       subst P more next.later,
-      subst Q more (ap (scan_on c.loop-child.scanner) (sym (child_removed set doc path i c.in-Some.child _ next refl outer (sym c.is_removed.ensures ∙ c.if-not-is_removed.false)))
+      subst Q more (ap (g.T.TakesText.after c.loop-child.taker) (sym (child_removed set doc path i c.in-Some.child _ next refl outer (sym c.is_removed.ensures ∙ c.if-not-is_removed.false)))
           ∙ c.loop-child.invariant.3),
     )
 
 pub returns-in-None : goal.returns-in-None
-returns-in-None t c =
+returns-in-None g t c =
     let set = set_in c.args.set.now in
     let doc = doc_in c.args.set.now in
     let kind : option_map kind_of (node_in doc c.args.node) ≡ Some c.kind.result = ap (λ d. option_map kind_of (node_in d c.args.node)) (sym c.doc-doc.ensures) ∙ c.kind.ensures in
-    ap (scan_on c.loop-child.scanner) (sym (none_left set doc (path_in doc c.args.node) (length c.loop-child.yielded) _ c.in-None.ensures.steps.0 c.loop-child.invariant.2))
+    sym (g.T.TakesText.stays c.loop-child.taker)
+    ∙ ap (g.T.TakesText.after c.loop-child.taker) (sym (none_left set doc (path_in doc c.args.node) (length c.loop-child.yielded) _ c.in-None.ensures.steps.0 c.loop-child.invariant.2))
     ∙ c.loop-child.invariant.3
-    ∙ ap (scan_on c.args.scanner.now) (other_node set doc c.args.node c.kind.result refl c.requires.has kind c.in_default.not-Text)
+    ∙ ap (g.T.TakesText.after c.args.taker.now) (other_node set doc c.args.node c.kind.result refl c.requires.has kind c.in_default.not-Text)

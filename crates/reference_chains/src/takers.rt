@@ -1,0 +1,68 @@
+//! What takes a text, one piece after another.
+
+ghost use Rattle.std.specs.Prelude.{◌≡◌, ◌++◌, [], ℕ, List, OnOk, refl};
+ghost use Rattle.doc_spans.specs.Pieces.{characters_in};
+
+use base64_texts::{Decoder, Scanner};
+use doc_spans::Piece;
+use std::convert::Infallible;
+use xa_io::OutOfMemory;
+
+// Takes a text, piece by piece.
+pub(crate) trait TakesText {
+    // How it fails.
+    type Fault;
+
+    // What it knows behind more text.
+    ghost after: { Self → List ℕ → Self };
+
+    // It knows the same behind no text, and behind a text as behind its parts.
+    ghost stays: { (taker : Self) → after taker [] ≡ taker };
+
+    ghost joined: { (taker : Self) (xs ys : List ℕ) → after taker (xs ++ ys) ≡ after (after taker xs) ys };
+
+    // Takes a piece.
+    fn take(&mut self, piece: Piece<'_>) -> Result<(), Self::Fault>
+        ensures { OnOk result (self.new ≡ after self.old (characters_in piece.entry)) };
+}
+
+impl TakesText for Scanner {
+    ghost use Rattle.base64_texts.specs.Scans.{scan_on};
+    ghost use Rattle.reference_chains.specs.Taken.{scan_joined};
+
+    type Fault = Infallible;
+
+    ghost after = { scan_on };
+
+    ghost stays = { λ taker. refl };
+
+    ghost joined = { scan_joined };
+
+    fn take(&mut self, piece: Piece<'_>) -> Result<(), Infallible> {
+        match piece {
+            Piece::Run(text) => self.push(text),
+            Piece::One(c) => self.push_char(c),
+        }
+        Ok(())
+    }
+}
+
+impl TakesText for Decoder {
+    ghost use Rattle.base64_texts.specs.Readings.{read_on};
+    ghost use Rattle.reference_chains.specs.Taken.{read_joined};
+
+    type Fault = OutOfMemory;
+
+    ghost after = { read_on };
+
+    ghost stays = { λ taker. refl };
+
+    ghost joined = { read_joined };
+
+    fn take(&mut self, piece: Piece<'_>) -> Result<(), OutOfMemory> {
+        match piece {
+            Piece::Run(text) => self.push(text),
+            Piece::One(c) => self.push_char(c),
+        }
+    }
+}
