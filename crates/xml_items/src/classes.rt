@@ -76,11 +76,13 @@ fn starts_name(n: u32) -> bool
     )
 }
 
+// Most characters of names are small letters, so these are asked for first.
 #[inline(always)]
 fn continues_name(n: u32) -> bool
     ensures { result ≡ Rattle.document_model.specs.Characters.continues_name n }
 {
-    starts_name(n)
+    matches!(n, 0x61..=0x7A)
+        || starts_name(n)
         || matches!(n, 0x2D..=0x2E | 0x30..=0x39 | 0xB7 | 0x300..=0x36F | 0x203F..=0x2040)
 }
 

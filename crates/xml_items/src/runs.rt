@@ -8,7 +8,9 @@ ghost use Rattle.xml_items.specs.Runs.{is_ordinary};
 pub(crate) fn is_ordinary(byte: u8) -> bool
     ensures { result ≡ is_ordinary byte }
 {
-    matches!(byte, 0x9..=0xA | 0x20..=0x25 | 0x27..=0x3B | 0x3D | 0x3F..=0x5C | 0x5E..=0x7E)
+    (byte >= 0x20 && byte <= 0x7E && !matches!(byte, b'&' | b'<' | b'>' | b']'))
+        || byte == b'\n'
+        || byte == b'\t'
 }
 
 /// How many such characters stand in a row at a place.

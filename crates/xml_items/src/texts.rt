@@ -41,7 +41,7 @@ fn are_plain(bytes: &[u8]) -> bool
 fn is_plain(byte: u8) -> bool
     ensures { result ≡ is_plain byte }
 {
-    matches!(byte, 0x9..=0xA | 0xD | 0x20..=0x7E)
+    (byte >= 0x20 && byte <= 0x7E) || matches!(byte, 0x9..=0xA | 0xD)
 }
 
 fn starts(text: &str, opening: &str) -> bool
