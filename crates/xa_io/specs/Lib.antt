@@ -2,6 +2,7 @@ pub mod Bytes
 pub mod Causes
 pub mod Shelf
 pub mod Sink
+pub mod Streams
 pub mod Listed
 pub mod HeldFiles
 pub mod Memory

@@ -3,7 +3,7 @@ ghost use Rattle.std.specs.Prelude.{◌≡◌, ℕ, ◌+◌, ◌-◌, ◌<◌, �
 ghost use Rattle.xa_io.specs.Sink.{appended};
 ghost use Rattle.xa_io.specs.Causes.{Rose};
 ghost use Rattle.xa_io.specs.HeldFiles.{look_up};
-ghost use Rattle.xa_io.specs.Shelf.{IsAnswer, GivesWithin, MissHasCause};
+ghost use Rattle.xa_io.specs.Shelf.{IsAnswer, GivesWithin, MissHasCause, also_asked};
 ghost use Rattle.xa_io.specs.Sink.{GaveFirst};
 
 use crate::counts::count_up;
@@ -89,9 +89,13 @@ impl Shelf for MemShelf {
 
     ghost gave = { λ s. s.gave };
 
+    ghost asked = { λ s. None };
+
+    #[tactic(auto, unfolding(crate::specs::Shelf::also_asked))]
     fn read_at(&mut self, name: &str, at: u64, into: &mut [u8]) -> Result<Got, ShelfFailed>
         requires { 0 < length into.old }
         ensures same { Some (look_up self.new.files.items) ≡ Some (look_up self.old.files.items) }
+        ensures asked { None ≡ also_asked None name.now }
         ensures told { (files : List ℕ → Option (List ℕ)) → Some (look_up self.old.files.items) ≡ Some files → IsAnswer files name.now at into.new result }
         ensures bytes { GivesWithin (length into.old) self.old.gave self.new.gave result }
         ensures no_such { MissHasCause self.old.misses self.new.misses result }

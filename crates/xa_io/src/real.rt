@@ -1,5 +1,9 @@
 // The shelf of real files, and sinks that write to a stream.
-ghost use Rattle.std.specs.Prelude.{◌≡◌, ℕ, ◌<◌, List, Option, None};
+ghost use Rattle.std.specs.Prelude.{◌≡◌, ℕ, ◌<◌, ◌≤◌, List, Option, None, OnOk, OnErr, is_ok, if◌then◌else◌};
+ghost use Rattle.std.specs.Io.KnownBytes.{Appends};
+ghost use Rattle.xa_io.specs.Causes.{Rose, counted};
+ghost use Rattle.xa_io.specs.Sink.{appended, GaveFirst};
+ghost use Rattle.xa_io.specs.Streams.{AppendsFirst};
 
 use crate::counts::count_up;
 use crate::shelf::{Got, Shelf, ShelfFailed};
@@ -46,6 +50,9 @@ impl<R: Files<File = File>> Shelf for FileShelf<'_, R> {
 
     ghost gave = { λ s. s.gave };
 
+    ghost asked = { λ s. None };
+
+    #[tactic(auto, unfolding(crate::specs::Shelf::also_asked))]
     fn read_at(&mut self, name: &str, at: u64, into: &mut [u8]) -> Result<Got, ShelfFailed> {
         match File::open(self.files, name) {
             Ok(file) => match file.read_at(into, at) {
@@ -72,7 +79,23 @@ impl<R: Files<File = File>> Shelf for FileShelf<'_, R> {
     }
 }
 
-/// A stream of the system. It tells nothing. A write that takes nothing is a fault.
+// Writes the piece from its front to its end. A write that takes nothing fails.
+fn write_whole<W: Write>(to: &mut W, piece: &[u8]) -> Result<(), SinkFailed>
+    ensures ok { OnOk result (Appends (W.contents to.old) (W.contents to.new) piece.now) }
+    ensures part { OnErr result (AppendsFirst piece.now (W.contents to.old) (W.contents to.new)) }
+{
+    let mut rest = piece;
+    while !rest.is_empty() {
+        match to.write(rest) {
+            Ok(count) if count > 0 => rest = &rest[count..],
+            _ => return Err(SinkFailed),
+        }
+    }
+    Ok(())
+}
+
+/// A stream of the system. As a sink it tells nothing; where the stream tells what it holds, `put` appends the whole piece to that,
+/// or fails after a first part.
 #[derive(Drop)]
 pub struct StdSink<W: Write + Drop> {
     to: W,
@@ -94,17 +117,21 @@ impl<W: Write + Drop> Sink for StdSink<W> {
     ghost faults = { λ s. s.faults };
 
     #[tactic(auto, unfolding(crate::specs::Sink::appended))]
-    fn put(&mut self, piece: &[u8]) -> Result<(), SinkFailed> {
-        let mut rest = piece;
-        while !rest.is_empty() {
-            match self.to.write(rest) {
-                Ok(count) if count > 0 => rest = &rest[count..],
-                _ => {
-                    self.faults = count_up(self.faults, 1);
-                    return Err(SinkFailed);
-                }
+    fn put(&mut self, piece: &[u8]) -> Result<(), SinkFailed>
+        ensures ok { OnOk result (None ≡ appended None piece.now) }
+        ensures part { OnErr result (GaveFirst piece.now None None) }
+        ensures failed { OnErr result (Rose self.old.faults self.new.faults) }
+        ensures faults_stay { self.old.faults ≤ self.new.faults }
+        ensures whole { OnOk result (Appends (W.contents self.old.to) (W.contents self.new.to) piece.now) }
+        ensures first { OnErr result (AppendsFirst piece.now (W.contents self.old.to) (W.contents self.new.to)) }
+        ensures counts { self.new.faults ≡ (if is_ok result then self.old.faults else counted self.old.faults 1) }
+    {
+        match write_whole(&mut self.to, piece) {
+            Ok(()) => Ok(()),
+            Err(SinkFailed) => {
+                self.faults = count_up(self.faults, 1);
+                Err(SinkFailed)
             }
         }
-        Ok(())
     }
 }

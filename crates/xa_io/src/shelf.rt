@@ -22,7 +22,7 @@ pub struct ShelfFailed;
 /// Its counts never fall, and stand still at the last value of a `u64`: an answer that needs a rise may then come without
 /// one.
 pub trait Shelf {
-    ghost use Rattle.xa_io.specs.Shelf.{Files, IsAnswer, GivesWithin, MissHasCause};
+    ghost use Rattle.xa_io.specs.Shelf.{Files, IsAnswer, GivesWithin, MissHasCause, also_asked};
 
     /// The files, where the shelf tells them.
     ghost held: { Self → Option (List ℕ → Option (List ℕ)) };
@@ -36,6 +36,9 @@ pub trait Shelf {
     /// How many bytes it gave.
     ghost gave: { Self → ℕ };
 
+    /// The names that it was asked for, one a read, in their order, where it tells them.
+    ghost asked: { Self → Option (List (List ℕ)) };
+
     /// Reads a part of a file from a place on. `into` isn't empty.
     ///
     /// `Bytes(n)` means that the first `n` bytes of `into` are those of the file from `at` on; `End` that `at` is at or past
@@ -44,6 +47,7 @@ pub trait Shelf {
     fn read_at(&mut self, name: &str, at: u64, into: &mut [u8]) -> Result<Got, ShelfFailed>
         requires { 0 < length into.old }
         ensures same { held self.new ≡ held self.old }
+        ensures asked { asked self.new ≡ also_asked (asked self.old) name.now }
         ensures told { (files : List ℕ → Option (List ℕ)) → held self.old ≡ Some files → IsAnswer files name.now at into.new result }
         ensures bytes { GivesWithin (length into.old) (gave self.old) (gave self.new) result }
         ensures no_such { MissHasCause (misses self.old) (misses self.new) result }

@@ -1,6 +1,7 @@
 // A shelf and a sink that never fail.
-ghost use Rattle.std.specs.Prelude.{◌≡◌, ◌<◌, ℕ, List, Option, None, Some, OnOk, OnErr, length};
+ghost use Rattle.std.specs.Prelude.{◌≡◌, ◌<◌, ◌≤◌, ℕ, List, Option, None, Some, IsOk, OnOk, OnErr, length};
 ghost use Rattle.xa_io.specs.HeldFiles.{look_up};
+ghost use Rattle.xa_io.specs.Shelf.{IsAnswer, GivesWithin, MissHasCause, also_asked};
 ghost use Rattle.xa_io.specs.Sink.{appended};
 
 use crate::counts::count_up;
@@ -53,6 +54,9 @@ impl SureShelf {
 }
 
 impl Shelf for SureShelf {
+    ghost use Rattle.xa_io.specs.Memory.{GivesAtMost};
+    ghost use Rattle.xa_io.specs.Sure.{sure_counts, sure_most, counted_by};
+
     ghost held = { λ s. Some (look_up s.files.items) };
 
     ghost faults = { λ s. 0 };
@@ -61,7 +65,23 @@ impl Shelf for SureShelf {
 
     ghost gave = { λ s. s.gave };
 
-    fn read_at(&mut self, name: &str, at: u64, into: &mut [u8]) -> Result<Got, ShelfFailed> {
+    ghost asked = { λ s. None };
+
+    #[tactic(auto, unfolding(crate::specs::Shelf::also_asked))]
+    fn read_at(&mut self, name: &str, at: u64, into: &mut [u8]) -> Result<Got, ShelfFailed>
+        requires { 0 < length into.old }
+        ensures same { Some (look_up self.new.files.items) ≡ Some (look_up self.old.files.items) }
+        ensures asked { None ≡ also_asked None name.now }
+        ensures told { (files : List ℕ → Option (List ℕ)) → Some (look_up self.old.files.items) ≡ Some files → IsAnswer files name.now at into.new result }
+        ensures bytes { GivesWithin (length into.old) self.old.gave self.new.gave result }
+        ensures no_such { MissHasCause self.old.misses self.new.misses result }
+        ensures failed { IsOk result }
+        ensures misses_stay { self.old.misses ≤ self.new.misses }
+        ensures gave_stays { self.old.gave ≤ self.new.gave }
+        ensures counts { sure_counts self.new ≡ counted_by result (sure_counts self.old) }
+        ensures at_most { GivesAtMost (sure_most self.old) result }
+        ensures most { sure_most self.new ≡ sure_most self.old }
+    {
         match look(&self.files, name) {
             Some(bytes) => {
                 let count = copy_part(bytes, at, self.most, into);

@@ -1,0 +1,4 @@
+pub mod Roles
+pub mod Wants
+pub mod Faults
+pub mod Asking
