@@ -11,7 +11,7 @@ use Rattle.doc_spans.specs.declared.documents.NodeId.{NodeId}
 use Rattle.doc_spans.specs.Below.{nodes_from}
 use Rattle.doc_spans.specs.Seen.{NameBelow, node_in, nodes_at, path_in, document_in}
 use Rattle.doc_spans.proofs.ChildSteps.{NextChild, no_child_left}
-use Rattle.canon_tags.specs.Rules.{rule_in}
+use Rattle.canon_methods.specs.Rules.{rule_in}
 use Rattle.canon_forms.specs.declared.walks.Walk.{Walk}
 use Rattle.canon_forms.proofs.HeldNodes.{held_is_reached}
 use Rattle.canon_forms.specs.Writing.{IsReached, is_element, held_top_text, lines_text}

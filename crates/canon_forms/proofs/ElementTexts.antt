@@ -1,5 +1,5 @@
 -- What is written of an element and of another node.
-use Rattle.std.proofs.Common.{◌≡◌, ℕ, List, [], ◌∷◌, ◌++◌, Option, Some, None, refl, sym, ◌∙◌, ap, append_assoc, codes}
+use Rattle.std.proofs.Common.{◌≡◌, ℕ, List, [], ◌∷◌, ◌++◌, Some, None, refl, sym, ◌∙◌, ap, append_assoc, codes}
 use Rattle.std.proofs.Math.Utf8.{encode, encodes}
 use Rattle.std.proofs.lemmas.List.{append-nil}
 use Rattle.std.proofs.lemmas.Option.{none-some}
@@ -20,10 +20,9 @@ use Rattle.doc_spans.specs.Seen.{Has, document_in, path_in, node_in, nodes_in, t
 use Rattle.doc_spans.specs.Shown.{outer_path}
 use Rattle.doc_spans.proofs.Elements.{element_of, nodes_of_element}
 use Rattle.doc_spans.proofs.Outward.{own_tag, tags_around}
-use Rattle.canon_tags.specs.Rules.{rule_in}
+use Rattle.canon_methods.specs.Rules.{rule_in}
 use Rattle.canon_forms.specs.declared.walks.Walk.{Walk}
-use Rattle.canon_forms.specs.Writing.{leaf_text}
-use Rattle.canon_forms.specs.Walks.{doc_of, held_in, test_in, leaf_in, written_in}
+use Rattle.canon_forms.specs.Walks.{doc_of, held_in, test_in, written_in}
 use Rattle.canon_forms.proofs.HeldNodes.{kept_any}
 use Rattle.canon_forms.proofs.Walked.{IsThere, there}
 
@@ -73,23 +72,6 @@ element_written walk around node tag start opened inner e o i =
     ap (λ x. x ++ encodes closing) (sym (append-nil inner) ∙ i ∙ ap (λ x. x ++ encodes within) o ∙ append_assoc start (encodes first) (encodes within))
     ∙ append_assoc start (encodes first ++ encodes within) (encodes closing)
     ∙ ap (λ x. start ++ x) (sym whole)
-
--- Another node.
-pub leaf_written : (walk : Walk) (around : Around) (doc : Doc) (node : NodeId) → doc ≡ doc_of walk → None ≡ tag_of doc node → leaf_in doc node ≡ written_in walk around node
-leaf_written walk around doc node same none =
-    ap (λ d. leaf_in d node) same
-    ∙ by_node (λ n. node_text (rule_in walk.rule) around (kept_node (test_in walk) [] (path_in (doc_of walk) node) n)) (node_in (doc_of walk) node) of_leaf (none ∙ ap (λ d. tag_of d node) same)
-  where
-    of_leaf : (n : Node) → None ≡ tag_of_node n → leaf_text n ≡ node_text (rule_in walk.rule) around (kept_node (test_in walk) [] (path_in (doc_of walk) node) n)
-    of_leaf (Element name attributes nodes) e = absurd (none-some _ e)
-    of_leaf (Text cs) e = refl
-    of_leaf (Comment cs) e = refl
-    of_leaf (Instruction target content) e = refl
-
-    by_node : (text : Node → List ℕ) (found : Option Node) → ((n : Node) → None ≡ tag_of_node n → leaf_text n ≡ text n) → None ≡ option_and_then tag_of_node found
-        → encodes (option_map_or leaf_text found []) ≡ encodes (option_map_or text found [])
-    by_node text None h e = refl
-    by_node text (Some n) h e = ap encodes (h n e)
 
 -- The elements around a node, by the node that holds it.
 pub around_of_holder : (doc : Doc) (node parent : NodeId) → Has doc node → (t : IsThere doc parent) → path_in doc parent ≡ outer_path (path_in doc node)

@@ -6,4 +6,3 @@ pub mod ChildNodes
 pub mod Walked
 pub mod ElementTexts
 pub mod SetOctets
-pub mod Named

@@ -9,7 +9,7 @@ use Rattle.document_model.specs.Canonical.{Form, Around, at_apex, node_text, in_
 use Rattle.doc_spans.specs.declared.documents.Doc.{Doc}
 use Rattle.doc_spans.specs.declared.documents.NodeId.{NodeId}
 use Rattle.doc_spans.specs.Seen.{Has, document_in, path_in}
-use Rattle.canon_tags.specs.Rules.{rule_in}
+use Rattle.canon_methods.specs.Rules.{rule_in}
 use Rattle.canon_forms.specs.declared.walks.Walk.{Walk}
 use Rattle.canon_forms.specs.Writing.{Test, is_at_top, is_element, line_of, held_top_text, lines_text, apex_text}
 use Rattle.canon_forms.specs.Walks.{doc_of, held_in, test_in, holds, element_in, written_in, written_top, written_apex}

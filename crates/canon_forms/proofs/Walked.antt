@@ -1,35 +1,19 @@
 -- What the calls of a walk tell of the nodes of its document.
-use Rattle.std.proofs.Common.{◌≡◌, Bool, true, false, not, ◌&&◌, ◌||◌, [], ◌∷◌, Option, Some, None, is_some, refl, sym, ◌∙◌, ap}
-use Rattle.std.specs.Option.{option_map_or}
-use Rattle.document_model.specs.Tree.{Node, Path}
+use Rattle.std.proofs.Common.{◌≡◌, Bool, true, false, not, ◌&&◌, ◌||◌, [], ◌∷◌, refl, sym, ◌∙◌, ap}
+use Rattle.document_model.specs.Tree.{Path}
 use Rattle.document_model.specs.Scopes.{elements_around}
 use Rattle.document_model.specs.NodeSets.{has_in, has, is_comment}
 use Rattle.doc_spans.specs.declared.documents.Doc.{Doc}
 use Rattle.doc_spans.specs.declared.documents.NodeId.{NodeId}
-use Rattle.doc_spans.specs.Seen.{Has, document_in, path_in, node_in}
+use Rattle.doc_spans.specs.Seen.{Has, document_in, path_in}
 use Rattle.doc_spans.specs.Shown.{outer_path}
-use Rattle.doc_spans.proofs.Calls.{node_there}
 use Rattle.doc_spans.proofs.Within.{node_path}
 use Rattle.node_sets.specs.Sets.{is_top}
+pub use Rattle.canon_methods.proofs.There.{IsThere, there, of_there}
 use Rattle.canon_forms.specs.declared.walks.Walk.{Walk}
 use Rattle.canon_forms.specs.Writing.{IsReached, is_at_top}
 use Rattle.canon_forms.specs.Walks.{doc_of, held_in, holds, keeps_kind}
 use Rattle.canon_forms.proofs.HeldNodes.{around_any, has_below}
-
--- a node of a document, and what is said of it
-pub record IsThere (doc : Doc) (node : NodeId) : Type 0 where
-  pub found : Node
-  pub is : node_in doc node ≡ Some found
-
-pub there : (doc : Doc) (node : NodeId) → Has doc node → IsThere doc node
-there doc node h = by_option (node_in doc node) refl (node_there doc node h)
-  where
-    by_option : (o : Option Node) → node_in doc node ≡ o → is_some o ≡ true → IsThere doc node
-    by_option None e f = cc
-    by_option (Some found) e f = record { found = found; is = e }
-
-pub of_there : {A : Type 0} (f : Node → A) (default : A) (doc : Doc) (node : NodeId) → (t : IsThere doc node) → option_map_or f (node_in doc node) default ≡ f t.found
-of_there f default doc node t = ap (λ o. option_map_or f o default) t.is
 
 -- The set holds it.
 pub has_is_holds : (walk : Walk) (node : NodeId) → Has (doc_of walk) node → has (held_in walk) (document_in (doc_of walk)) (path_in (doc_of walk) node) ≡ holds walk node

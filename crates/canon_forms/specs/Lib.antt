@@ -1,4 +1,3 @@
 pub mod Forms
 pub mod Writing
 pub mod Walks
-pub mod Listed

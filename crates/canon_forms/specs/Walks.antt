@@ -9,7 +9,7 @@ use Rattle.doc_spans.specs.declared.documents.Doc.{Doc}
 use Rattle.doc_spans.specs.declared.documents.NodeId.{NodeId}
 use Rattle.doc_spans.specs.Seen.{document_in, path_in, node_in}
 use Rattle.node_sets.specs.Sets.{set_in, doc_in}
-use Rattle.canon_tags.specs.Rules.{rule_in}
+use Rattle.canon_methods.specs.Rules.{rule_in}
 use Rattle.canon_forms.specs.declared.walks.Walk.{Walk}
 use Rattle.canon_forms.specs.Writing.{Test, is_element, held_top_text, apex_text, leaf_text}
 

@@ -2,17 +2,10 @@
 #![tactic(auto)]
 
 mod apexes;
-mod forms;
 mod lines;
-mod methods;
 mod nodes;
 mod walks;
 mod writing;
 
-pub use canon_tags::Prefixes;
-pub use forms::Form;
-pub use methods::read_form;
+pub use canon_methods::{Form, Prefixes, read_form};
 pub use writing::to_vec;
-
-#[cfg(test)]
-mod tests;

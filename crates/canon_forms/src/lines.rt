@@ -5,7 +5,7 @@ ghost use Rattle.document_model.specs.Canonical.{at_apex};
 ghost use Rattle.doc_spans.specs.Seen.{Has, document_in, path_in};
 ghost use Rattle.doc_spans.specs.Shown.{outer_path};
 ghost use Rattle.canon_tags.specs.Around.{around_in};
-ghost use Rattle.canon_tags.specs.Rules.{rule_in};
+ghost use Rattle.canon_methods.specs.Rules.{rule_in};
 ghost use Rattle.canon_forms.specs.Writing.{lines_text, line_of, IsReached};
 ghost use Rattle.canon_forms.specs.Walks.{doc_of, held_in, test_in, element_in, written_in, written_top};
 

@@ -5,13 +5,12 @@ ghost use Rattle.document_model.specs.Canonical.{in_form};
 ghost use Rattle.doc_spans.specs.Seen.{Has, path_in};
 ghost use Rattle.doc_spans.specs.Shown.{outer_path};
 ghost use Rattle.node_sets.specs.Sets.{set_in, doc_in};
-ghost use Rattle.canon_tags.specs.Rules.{rule_in};
-ghost use Rattle.canon_forms.specs.Forms.{form_in};
+ghost use Rattle.canon_methods.specs.Rules.{rule_in};
+ghost use Rattle.canon_methods.specs.Forms.{form_in};
 ghost use Rattle.canon_forms.specs.Writing.{is_at_top, IsReached};
 ghost use Rattle.canon_forms.specs.Walks.{doc_of, held_in, holds, keeps_kind};
 
-use crate::forms::Form;
-use canon_tags::Rule;
+use canon_methods::{Form, Rule};
 use doc_spans::{Doc, Kind, NodeId};
 use node_sets::NodeSet;
 

@@ -4,12 +4,12 @@ ghost use Rattle.std.specs.Prelude.{◌≡◌, IfOk};
 ghost use Rattle.document_model.specs.Canonical.{octets_of};
 ghost use Rattle.doc_spans.specs.Seen.{document_in};
 ghost use Rattle.node_sets.specs.Sets.{set_in, doc_in};
-ghost use Rattle.canon_forms.specs.Forms.{form_in};
+ghost use Rattle.canon_methods.specs.Forms.{form_in};
 
 use crate::apexes::put_apex;
-use crate::forms::Form;
 use crate::lines::put_lines;
 use crate::walks::Walk;
+use canon_methods::Form;
 use canon_tags::Around;
 use node_sets::NodeSet;
 use std::alloc::Global;

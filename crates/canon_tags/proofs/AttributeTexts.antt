@@ -9,7 +9,7 @@ use Rattle.document_model.specs.Scopes.{Tag, attribute_name}
 use Rattle.document_model.specs.Canonical.{Rule, Around, placed, sorted, is_name_before, is_declaration, is_xml, has_local, with_inherited, attributes_of, attributes_text, attribute_text}
 use Rattle.doc_spans.specs.Scoped.{scope_of}
 use Rattle.canon_tags.specs.Entries.{named, is_named_before, plain_ones, inherited_of, entries_text}
-use Rattle.canon_tags.proofs.Ordered.{is_same}
+use Rattle.canon_methods.proofs.Texts.{is_same}
 use Rattle.doc_spans.proofs.ScopeLists.{space_same}
 
 -- An `xml:` attribute is no declaration.

@@ -5,6 +5,5 @@ pub mod Sorting
 pub mod ScopeStacks
 pub mod WrittenTexts
 pub mod InheritedEntries
-pub mod ListWords
 pub mod AttributeTexts
 pub mod Entering

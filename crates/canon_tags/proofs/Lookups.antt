@@ -6,7 +6,7 @@ use Rattle.document_model.specs.Items.{Attribute}
 use Rattle.document_model.specs.Canonical.{is_among}
 use Rattle.doc_spans.specs.Scoped.{declared_in}
 use Rattle.canon_tags.specs.Scoped.{prefixes_of, is_bound}
-use Rattle.canon_tags.proofs.Ordered.{is_turned}
+use Rattle.canon_methods.proofs.Texts.{is_turned}
 
 pub is_found : (prefix : List ℕ) (scope : List Attribute) → is_some (declared_in prefix scope) ≡ is_among prefix (prefixes_of scope)
 is_found prefix [] = refl

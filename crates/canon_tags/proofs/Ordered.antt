@@ -1,27 +1,14 @@
 -- Texts in order, each once.
-use Rattle.std.proofs.Common.{◌≡◌, ℕ, Bool, true, false, ◌&&◌, ◌||◌, cond, List, [], ◌∷◌, length, refl, sym, ◌∙◌, ap, arith}
+use Rattle.std.proofs.Common.{◌≡◌, ℕ, Bool, true, false, ◌&&◌, ◌||◌, cond, List, [], ◌∷◌, refl, sym, ◌∙◌, ap}
 use Rattle.std.proofs.lemmas.Bool.{true≢false, false≢true, and_parts}
-use Rattle.std.proofs.lemmas.Str.{chars-nil}
 use Rattle.std.specs.Prelude.{filter}
-use Rattle.std.specs.Str.{chars}
 use Rattle.std.specs.List.{list_all}
-use Rattle.std.specs.Cmp.Lexicographic.{same_text}
-use Rattle.xml_items.proofs.AsciiTexts.{same_bool, same_from}
+use Rattle.xml_items.proofs.AsciiTexts.{same_from}
 use Rattle.document_model.specs.Characters.{◌is◌}
 use Rattle.document_model.specs.Canonical.{is_before, placed, is_among, with_prefix}
 use Rattle.document_model.proofs.ListOrder.{before_itself, before_on, before_one_way, before_or_same}
+use Rattle.canon_methods.proofs.Texts.{is_same, is_itself, is_turned}
 use Rattle.canon_tags.specs.Scoped.{is_ordered}
-
--- Texts that are the same.
-
-pub is_same : (a b : List ℕ) → (a is b) ≡ true → a ≡ b
-is_same a b e = same_text a b (sym e)
-
-pub is_itself : (a : List ℕ) → (a is a) ≡ true
-is_itself a = same_from a a refl
-
-pub is_turned : (a b : List ℕ) → (a is b) ≡ (b is a)
-is_turned a b = same_bool (a is b) (b is a) (λ e. same_from b a (sym (is_same a b e))) (λ e. same_from a b (sym (is_same b a e)))
 
 -- One text before another.
 
@@ -196,10 +183,6 @@ ended_first a b d ds e f = (λ i. is_before (e i) (f i))
 
 pub ended_second : (a b : List ℕ) → b ≡ [] → is_before a b ≡ false
 ended_second a b e = ap (is_before a) e ∙ nothing_before a
-
-pub chars_none : (xs : List ℕ) → length xs ≡ 0 → chars xs ≡ []
-chars_none [] e = chars-nil
-chars_none (x ∷ xs) e = absurd (omega (arith, e))
 
 pub with_new : (x : List ℕ) (ys zs : List (List ℕ)) → is_among x ys ≡ false → zs ≡ placed is_before x ys → zs ≡ with_prefix x ys
 with_new x ys zs e f = f ∙ sym (ap (λ b. cond b ys (placed is_before x ys)) e)

@@ -11,7 +11,8 @@ use Rattle.document_model.specs.Canonical.{Rule, Inclusive, Exclusive, Around, r
 use Rattle.doc_spans.specs.Scoped.{with_declarations, scope_of, space_in}
 use Rattle.canon_tags.specs.Scoped.{prefixes_of, is_bound, changes_in, is_unrendered_in, with_used, used_by, gathered, gathered_by, is_declared_anew, is_rendered_anew, is_ordered}
 use Rattle.doc_spans.proofs.ScopeLists.{space_same}
-use Rattle.canon_tags.proofs.Ordered.{is_same, is_itself, is_turned, or_parts, with_ordered, among_with, filter_ordered, among_filter, ordered_same}
+use Rattle.canon_methods.proofs.Texts.{is_same, is_itself, is_turned}
+use Rattle.canon_tags.proofs.Ordered.{or_parts, with_ordered, among_with, filter_ordered, among_filter, ordered_same}
 
 -- The prefixes that are declared.
 
@@ -150,9 +151,6 @@ excluded true true true false r true true h k = refl
 excluded false true true false r true true h k = refl
 excluded true true true false r false true h k = refl
 excluded false true true false r false true h k = refl
-
-or_left : (x y z : Bool) → x ≡ true → ((x || y) || z) ≡ true
-or_left x y z e = (λ i. (e i || y) || z)
 
 among_front : (q : List ℕ) (own rest : List Attribute) → is_among q (prefixes_of own) ≡ true → is_among q (prefixes_of (own ++ rest)) ≡ true
 among_front q [] rest e = absurd (false≢true e)

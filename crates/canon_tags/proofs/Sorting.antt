@@ -1,15 +1,11 @@
 -- Sorting onto a list that is sorted already.
 use Rattle.std.proofs.Common.{◌≡◌, ℕ, zero, suc, ◌+◌, ◌<◌, ◌≤◌, Bool, true, false, cond, List, [], ◌∷◌, ◌++◌, length, take, drop, get_or, map, refl, sym, ◌∙◌, ap, arith}
 use Rattle.std.specs.List.{insert}
-use Rattle.document_model.specs.Canonical.{placed, sorted}
+use Rattle.document_model.specs.Canonical.{placed}
 
 abbrev pub sorted_onto : {A : Type 0} → (A → A → Bool) → List A → List A → List A
 sorted_onto before done [] = done
 sorted_onto before done (x ∷ xs) = placed before x (sorted_onto before done xs)
-
-pub sorted_onto_none : {A : Type 0} (before : A → A → Bool) (xs : List A) → sorted_onto before [] xs ≡ sorted before xs
-sorted_onto_none before [] = refl
-sorted_onto_none before (x ∷ xs) = ap (placed before x) (sorted_onto_none before xs)
 
 -- the last of those that are left is placed next
 pub sorted_onto_last : {A : Type 0} (before : A → A → Bool) (done xs : List A) (x : A) → sorted_onto before done (xs ++ x ∷ []) ≡ sorted_onto before (placed before x done) xs

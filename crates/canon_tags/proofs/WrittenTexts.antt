@@ -10,7 +10,7 @@ use Rattle.document_model.specs.Canonical.{attribute_text, declaration_text, dec
 use Rattle.xml_items.specs.Found.{name_in, IsNameText}
 use Rattle.xml_items.proofs.AsciiTexts.{ascii_from}
 use Rattle.xml_items.proofs.NameTexts.{spells}
-use Rattle.canon_tags.proofs.Ordered.{chars_none}
+use Rattle.xml_items.proofs.AsciiTexts.{chars_empty}
 use Rattle.canon_tags.proofs.Sorting.{drop_at}
 
 pub name_alone : (prefix local : List ℕ) → (length prefix == 0) ≡ true → IsUtf8 local → encode_utf8_all (spelled_with (chars prefix) (chars local)) ≡ local
@@ -67,7 +67,7 @@ xmlns_chars = chars-IsAscii (codes "xmlns") (ascii_from (codes "xmlns") refl)
 pub default_text : (prefix value : List ℕ) → (length prefix == 0) ≡ true → attribute_text (spelled_with (chars []) (chars (codes "xmlns"))) value ≡ declaration_text (declared_as (chars prefix) value)
 default_text prefix value e =
     (λ i. attribute_text (spelled_with (chars-nil i) (xmlns_chars i)) value)
-    ∙ sym (ap (λ p. declaration_text (declared_as p value)) (chars_none prefix (eqb-true (length prefix) 0 e)))
+    ∙ sym (ap (λ p. declaration_text (declared_as p value)) (chars_empty prefix (eqb-true (length prefix) 0 e)))
 
 pub prefixed_text : (prefix value : List ℕ) → (length prefix == 0) ≡ false → IsUtf8 prefix
     → attribute_text (spelled_with (chars (codes "xmlns")) (chars prefix)) value ≡ declaration_text (declared_as (chars prefix) value)

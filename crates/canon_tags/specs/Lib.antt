@@ -1,7 +1,4 @@
 pub mod Scoped
-pub mod Words
-pub mod Sought
-pub mod Rules
 pub mod Around
 pub mod Texts
 pub mod Entries

@@ -5,7 +5,7 @@ ghost use Rattle.document_model.specs.Names.{spelled};
 ghost use Rattle.document_model.specs.Scopes.{Tag};
 ghost use Rattle.document_model.specs.Canonical.{Around as Surroundings, at_apex, inside, start_text, declarations, declaration_text, attributes_text};
 ghost use Rattle.doc_spans.specs.OpenTags.{tag_in};
-ghost use Rattle.canon_tags.specs.Rules.{rule_in};
+ghost use Rattle.canon_methods.specs.Rules.{rule_in};
 ghost use Rattle.doc_spans.specs.Declarations.{nearest_first};
 ghost use Rattle.canon_tags.specs.Entries.{entries_in, entries_text};
 ghost use Rattle.doc_spans.specs.Scopes.{tags_around};
@@ -15,26 +15,29 @@ use crate::attributes::arrange;
 use crate::entries::Entry;
 use crate::entry_lists::put_entries;
 use crate::prefixes::{gather, keep_rendered, put_declarations};
-use crate::rules::Rule;
+use crate::tables::tabulate;
+use canon_methods::Rule;
 use doc_spans::OpenTag;
 use doc_spans::declarations::{Declaration, Declared};
 use doc_spans::stacks::Scopes;
 use std::alloc::{AllocError, Global};
 use xa_io::{Octs, OutOfMemory};
+use xml_items::attribute_walk::{Attribute, Attributes};
 
 /// The elements around a node, and what they wrote.
-#[derive(Debug, Drop)]
+#[derive(Drop)]
 pub struct Around<'a> {
     scopes: Scopes<'a>,
     below: bool,
     rendered: Vec<Declaration<'a>>,
+    table: Vec<Attribute<'a>>,
     found: Vec<&'a str>,
     pending: Vec<Entry<'a>>,
     entries: Vec<Entry<'a>>,
 }
 
 /// What leads out of an element again, behind its last node.
-#[derive(Clone, Copy, Debug)]
+#[derive(Clone, Copy)]
 pub struct Outside {
     below: bool,
     rendered: usize,
@@ -51,6 +54,7 @@ impl<'a> Around<'a> {
             scopes: Scopes::new(alloc),
             below: false,
             rendered: Vec::new(alloc),
+            table: Vec::new(alloc),
             found: Vec::new(alloc),
             pending: Vec::new(alloc),
             entries: Vec::new(alloc),
@@ -127,6 +131,8 @@ impl<'a> Around<'a> {
         let givers = self.givers(rule);
         let outside = self.scopes.push(tag)?;
         let shared = self.shared(outside);
+        self.table.clear();
+        tabulate(&mut self.table, Attributes::of(tag.attributes))?;
         gather(
             &mut self.found,
             &self.scopes,
@@ -134,12 +140,14 @@ impl<'a> Around<'a> {
             &self.rendered,
             rule,
             tag,
+            self.table.as_slice(),
         )?;
         arrange(
             &mut self.entries,
             &mut self.pending,
             &self.scopes,
             tag,
+            self.table.as_slice(),
             givers,
         )?;
         Ok(())

@@ -53,22 +53,18 @@ fn entry_of<'a>(scope: Declared<'_, 'a>, a: Attribute<'a>) -> Entry<'a>
 pub(crate) fn collect<'a>(
     entries: &mut Vec<Entry<'a>>,
     scope: Declared<'_, 'a>,
-    attributes: Attributes<'a>,
+    attributes: &[Attribute<'a>],
 ) -> Result<(), AllocError>
-    ensures { OnOk result (entries_in entries.new.items ≡ entries_in entries.old.items ++ map (named (declared scope.entry)) (plain_ones (attributes_left attributes.entry))) }
+    ensures { OnOk result (entries_in entries.new.items ≡ entries_in entries.old.items ++ map (named (declared scope.entry)) (plain_ones (map attribute_in attributes.now))) }
 {
     let mut rest = attributes;
-    'attributes: loop {
-        match rest.first() {
-            Some((a, behind)) => {
-                if declared_prefix(a).is_none() {
-                    entries.push(entry_of(scope, a))?;
-                }
-                rest = behind;
-            }
-            None => return Ok(()),
+    'attributes: while let [a, behind @ ..] = rest {
+        if declared_prefix(*a).is_none() {
+            entries.push(entry_of(scope, *a))?;
         }
+        rest = behind;
     }
+    Ok(())
 }
 
 // Takes the `xml:` attributes of an element around the apex whose names are not there yet.
@@ -118,9 +114,11 @@ pub(crate) fn arrange<'a>(
     pending: &mut Vec<Entry<'a>>,
     scopes: &Scopes<'a>,
     tag: OpenTag<'a>,
+    table: &[Attribute<'a>],
     givers: usize,
 ) -> Result<(), AllocError>
-    requires { givers ≤ vec_len scopes.now.tags }
+    requires givers { givers ≤ vec_len scopes.now.tags }
+    requires table { map attribute_in table.now ≡ (tag_in tag).attributes }
     ensures { OnOk result (entries_in entries.new.items ≡ sorted is_named_before (map (named (nearest_first scopes.now.declarations.items)) (with_inherited (plain_ones (tag_in tag.entry).attributes) (opened_in (take givers scopes.now.tags.items))))) }
 {
     entries.clear();
@@ -128,7 +126,7 @@ pub(crate) fn arrange<'a>(
     let scope = Declared {
         items: scopes.declarations.as_slice(),
     };
-    collect(pending, scope, Attributes::of(tag.attributes))?;
+    collect(pending, scope, table)?;
     inherit(pending, scope, &scopes.tags[..givers])?;
     put_in_order(pending, entries)
 }

@@ -8,7 +8,7 @@ use crate::orders::{is_before, is_value_before};
 use xml_items::value_texts::same_values;
 
 // An attribute's name and its value, as it stands between the quotes, and the text of its namespace name.
-#[derive(Clone, Copy, Debug)]
+#[derive(Clone, Copy)]
 pub(crate) struct Entry<'a> {
     pub(crate) prefix: &'a str,
     pub(crate) local: &'a str,

@@ -7,12 +7,8 @@ mod entries;
 mod entry_lists;
 mod orders;
 mod prefixes;
-mod rules;
-mod sought;
+mod tables;
 mod writing;
 
 pub use around::{Around, Outside};
-pub use rules::{Prefixes, Rule};
-
-#[cfg(test)]
-mod tests;
+pub use canon_methods::{Prefixes, Rule};

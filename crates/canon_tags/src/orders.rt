@@ -6,6 +6,7 @@ ghost use Rattle.document_model.specs.Canonical.{is_before};
 ghost use Rattle.xml_items.specs.Found.{value_in, IsValueText};
 
 use xml_items::classes::first;
+use xml_items::texts::same;
 use xml_items::value_texts::first_of_value;
 
 // Whether a text comes before another.
@@ -37,6 +38,9 @@ pub(crate) fn is_value_before(a: &str, b: &str) -> bool
     requires second { IsValueText b.now }
     ensures { result ≡ is_before (value_in (chars a.now)) (value_in (chars b.now)) }
 {
+    if same(a, b) {
+        return false;
+    }
     let mut x = a;
     let mut y = b;
     'characters: loop {

@@ -4,9 +4,9 @@ ghost use Rattle.std.specs.Prelude.{◌≡◌, ◌++◌, ◌∷◌, ◌≤◌, n
 ghost use Rattle.std.specs.Str.{chars};
 ghost use Rattle.document_model.specs.Characters.{is_empty};
 ghost use Rattle.document_model.specs.Canonical.{is_before, placed, is_among, with_prefix, rendered_value, declaration_text, declared_as};
-ghost use Rattle.xml_items.specs.Attributes.{attributes_left};
+ghost use Rattle.xml_items.specs.Attributes.{attribute_in};
 ghost use Rattle.doc_spans.specs.OpenTags.{tag_in};
-ghost use Rattle.canon_tags.specs.Rules.{prefixes_in, rule_in};
+ghost use Rattle.canon_methods.specs.Rules.{prefixes_in, rule_in};
 ghost use Rattle.doc_spans.specs.Scoped.{space_in};
 ghost use Rattle.canon_tags.specs.Scoped.{prefixes_of, is_bound, changes_in, is_unrendered_in, is_declared_anew, is_rendered_anew, with_used, used_by, gathered, gathered_by};
 ghost use Rattle.doc_spans.specs.Declarations.{nearest_first};
@@ -15,14 +15,14 @@ ghost use Rattle.canon_tags.specs.Texts.{texts_in};
 ghost use Rattle.canon_tags.specs.Own.{own_prefixes};
 
 use crate::orders::is_before;
-use crate::rules::{Prefixes, Rule};
 use crate::writing::put_declaration;
+use canon_methods::{Prefixes, Rule};
 use doc_spans::OpenTag;
 use doc_spans::declarations::{Declaration, Declared};
 use doc_spans::stacks::Scopes;
 use std::alloc::AllocError;
 use xa_io::{Octs, OutOfMemory};
-use xml_items::attribute_walk::Attributes;
+use xml_items::attribute_walk::Attribute;
 use xml_items::names::name_parts;
 use xml_items::texts::{is, is_empty, same};
 use xml_items::value_texts::same_values;
@@ -164,22 +164,18 @@ fn gather_used<'a>(
     found: &mut Vec<&'a str>,
     standing: &Standing<'_, 'a>,
     prefixes: &Prefixes<'_>,
-    attributes: Attributes<'a>,
+    attributes: &[Attribute<'a>],
 ) -> Result<(), AllocError>
-    ensures { OnOk result (texts_in found.new.items ≡ gathered (is_rendered_anew (prefixes_in prefixes.now) (declared standing.now.scope) (declared standing.now.written) (declared standing.now.rendered)) (with_used (attributes_left attributes.entry) []) (texts_in found.old.items)) }
+    ensures { OnOk result (texts_in found.new.items ≡ gathered (is_rendered_anew (prefixes_in prefixes.now) (declared standing.now.scope) (declared standing.now.written) (declared standing.now.rendered)) (with_used (map attribute_in attributes.now) []) (texts_in found.old.items)) }
 {
     let mut rest = attributes;
-    'attributes: loop {
-        match rest.first() {
-            Some((a, behind)) => {
-                if !is_empty(a.prefix) {
-                    gather_one(found, standing, prefixes, a.prefix)?;
-                }
-                rest = behind;
-            }
-            None => return Ok(()),
+    'attributes: while let [a, behind @ ..] = rest {
+        if !is_empty(a.prefix) {
+            gather_one(found, standing, prefixes, a.prefix)?;
         }
+        rest = behind;
     }
+    Ok(())
 }
 
 // Takes all prefixes whose declarations are written, in order. The first of the declarations, so many, are those that the nearest written
@@ -191,8 +187,10 @@ pub(crate) fn gather<'a>(
     rendered: &Vec<Declaration<'a>>,
     rule: &Rule<'_>,
     tag: OpenTag<'a>,
+    table: &[Attribute<'a>],
 ) -> Result<(), AllocError>
-    requires { shared ≤ vec_len scopes.now.declarations }
+    requires shared { shared ≤ vec_len scopes.now.declarations }
+    requires table { map attribute_in table.now ≡ (tag_in tag).attributes }
     ensures { OnOk result (texts_in found.new.items ≡ gathered_by (rule_in rule.now) (own_prefixes (drop shared scopes.now.declarations.items)) (nearest_first scopes.now.declarations.items) (nearest_first (take shared scopes.now.declarations.items)) (nearest_first rendered.now.items) (tag_in tag.entry)) }
 {
     found.clear();
@@ -211,7 +209,7 @@ pub(crate) fn gather<'a>(
     if let Rule::Exclusive(prefixes) = rule {
         let (prefix, _) = name_parts(tag.name);
         gather_one(found, &standing, prefixes, prefix)?;
-        gather_used(found, &standing, prefixes, Attributes::of(tag.attributes))?;
+        gather_used(found, &standing, prefixes, table)?;
     }
     Ok(())
 }

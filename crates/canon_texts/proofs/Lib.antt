@@ -1,2 +1,4 @@
+pub mod Kept
 pub mod EscapedTexts
 pub mod MarkupTexts
+pub mod PlainFronts

@@ -8,6 +8,3 @@ mod places;
 
 pub use escapes::{put_text, put_value};
 pub use markup::{put_comment, put_instruction};
-
-#[cfg(test)]
-mod tests;

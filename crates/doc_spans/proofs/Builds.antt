@@ -1,5 +1,6 @@
 -- The rows of a builder are the places of the pieces that were added.
 use Rattle.std.proofs.Common.{◌≡◌, ℕ, zero, suc, pred, ◌+◌, ◌<◌, ◌≤◌, Bool, true, false, cond, List, [], ◌∷◌, ◌++◌, length, take, drop, Some, refl, sym, ◌∙◌, ap, subst, arith, length-append, ◌⊎◌, inl, inr}
+use Rattle.std.proofs.lemmas.Option.{same_Some}
 use Rattle.std.proofs.lemmas.Bool.{ne_eqb}
 use Rattle.std.specs.Prelude.{map, slice_get}
 use Rattle.std.specs.Option.{option_map_or}
@@ -16,7 +17,7 @@ use Rattle.doc_spans.specs.Building as building
 use Rattle.doc_spans.specs.Building.{State, with_next, with_end, parent_of}
 use Rattle.doc_spans.specs.View.{none, AreBefore}
 use Rattle.doc_spans.specs.View.{siblings, under, paths_of, parents_of, place_of_row, placed, places_of_rows, kinds_of_rows, seen_at}
-use Rattle.doc_spans.proofs.Each.{map_same, map_map, map_join, some_is, each_get}
+use Rattle.doc_spans.proofs.Each.{map_same, map_map, map_join, each_get}
 use Rattle.doc_spans.specs.View.{Each, Distinct}
 use Rattle.doc_spans.proofs.Marks.{all_true, eq_self, within_self}
 use Rattle.doc_spans.proofs.Named.{paths, paths_distinct, fresh}
@@ -252,7 +253,7 @@ last_more ps current c outer later before few last at same k p path e f w = elim
       let g : slice_get (paths_of ps) k ≡ Some path = sym (get_front (paths_of ps) ((outer ++ c ∷ []) ∷ []) k (omega (arith, many, old.0))) ∙ f in
       let within = same k path g w in
       let zero_before = last k p path old.1 g within in
-      let is : path ≡ under (paths_of ps) p ++ siblings p (take k ps) ∷ [] = some_is path _ (sym g ∙ has_paths ps before few k p old.1) in
+      let is : path ≡ under (paths_of ps) p ++ siblings p (take k ps) ∷ [] = same_Some path _ (sym g ∙ has_paths ps before few k p old.1) in
       let apart : current ≡ p → ⊥ = λ q.
       (let f : false ≡ true =
       sym (not_within outer (siblings p (take k ps)))

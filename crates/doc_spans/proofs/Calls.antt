@@ -4,7 +4,7 @@ use Rattle.std.proofs.Math.Logic.{∥∥₁_elim, ∥∥₁_map}
 use Rattle.std.proofs.Math.Nat.{ℕ_set}
 use Rattle.std.proofs.Math.Bool.{Bool-set}
 use Rattle.std.proofs.Props.{props}
-use Rattle.std.proofs.lemmas.Option.{none-some}
+use Rattle.std.proofs.lemmas.Option.{none-some, same_Some}
 use Rattle.std.proofs.lemmas.Str.{chars-nil}
 use Rattle.std.specs.Prelude.{Option, option_map, option_and_then, is_some}
 use Rattle.std.specs.Option.{option_map_or}
@@ -33,7 +33,7 @@ use Rattle.doc_spans.specs.Texts.{StandFrom, AreTexts, text_added, HoldText, tex
 use Rattle.doc_spans.specs.View.{place_of_row}
 use Rattle.doc_spans.specs.Written.{written_name, written_text, written_tag}
 use Rattle.doc_spans.proofs.ChildNodes.{children_within, count_is, get_there, path_at_place}
-use Rattle.doc_spans.proofs.Each.{some_is, each_weaker}
+use Rattle.doc_spans.proofs.Each.{each_weaker}
 use Rattle.doc_spans.proofs.Named.{head_of}
 use Rattle.doc_spans.proofs.ItemRuns.{text_is}
 use Rattle.doc_spans.proofs.Nodes.{IsSeen}
@@ -58,7 +58,7 @@ node_stands bytes shown k row whole shows = stands_at shown bytes k (place_of_ro
 node_kind : (bytes : List ℕ) (shown : Shown) (k : ℕ) (row : Row) → (whole : IsShownOf shown bytes) → (shows : ShowsRow shown k row) → kind_of (node_stands bytes shown k row whole shows).0.node ≡ row.kind
 node_kind bytes shown k row whole shows =
     let stands = node_stands bytes shown k row whole shows in
-    some_is _ _ (sym (ap (option_map kind_of) stands.0.named) ∙ whole.kinds k (place_of_row (path_at shown k) row) row.kind shows.place shows.kind)
+    same_Some _ _ (sym (ap (option_map kind_of) stands.0.named) ∙ whole.kinds k (place_of_row (path_at shown k) row) row.kind shows.place shows.kind)
 
 record TextAt (bytes : List ℕ) (path : Path) (row : Row) : Type 0 where
   pieces : List Piece
@@ -110,10 +110,10 @@ text_by : (found : Found) (node : Node) → (kind_of node ≡ kinds.Text → ⊥
 text_by item node other e = by_found item e
   where
     of : (m : Node) (text : List ℕ) → Some (head node) ≡ Some m → text_of_node m ≡ text → text ≡ text_of_node node
-    of m text e f = sym f ∙ sym (ap text_of_node (some_is (head node) m e)) ∙ text_of_head node other
+    of m text e f = sym f ∙ sym (ap text_of_node (same_Some (head node) m e)) ∙ text_of_head node other
 
     no_text : Some (head node) ≡ Some (Text []) → ⊥
-    no_text e = other (sym (kind_of_head node) ∙ ap kind_of (some_is (head node) (Text []) e))
+    no_text e = other (sym (kind_of_head node) ∙ ap kind_of (same_Some (head node) (Text []) e))
 
     none : with_line_ends (chars []) ≡ []
     none = ap with_line_ends chars-nil
@@ -135,7 +135,7 @@ node_item : (bytes : List ℕ) (shown : Shown) (k : ℕ) (row : Row) (scanned : 
 node_item bytes shown k row scanned w shows at =
     let seen = (node_stands bytes shown k row w shows).0 in
     let f : Piece × List ℕ → Item = λ p. p.0.item in
-    seen.begun ∙ ap (λ p. head_of (f p)) (some_is _ _ (sym seen.read ∙ at))
+    seen.begun ∙ ap (λ p. head_of (f p)) (same_Some _ _ (sym seen.read ∙ at))
 
 pub other_value : (bytes : List ℕ) (shown : Shown) (k : ℕ) (row : Row) (scanned : Scanned) → ∥ IsShownOf shown bytes ∥₁ → ShowsRow shown k row → (row.kind ≡ kinds.Text → ⊥)
     → piece_at (drop row.start bytes) ≡ Some (piece_in bytes row.start scanned)
@@ -159,14 +159,14 @@ tag_of_head (Instruction target content) m e = ap tag_of_node e
 
 tag_by : (found : Found) (node : Node) → Some (head node) ≡ head_of (item_in found) → written_tag found ≡ tag_of_node node
 tag_by found.Declaration node e = absurd (none-some (head node) (sym e))
-tag_by (found.StartTag name attributes) node e = sym (tag_of_head node _ (some_is _ _ e))
-tag_by (found.EmptyTag name attributes) node e = sym (tag_of_head node _ (some_is _ _ e))
+tag_by (found.StartTag name attributes) node e = sym (tag_of_head node _ (same_Some _ _ e))
+tag_by (found.EmptyTag name attributes) node e = sym (tag_of_head node _ (same_Some _ _ e))
 tag_by (found.EndTag name) node e = absurd (none-some (head node) (sym e))
-tag_by (found.Character c) node e = sym (tag_of_head node (Text []) (some_is _ _ e))
-tag_by (found.Reference c) node e = sym (tag_of_head node (Text []) (some_is _ _ e))
-tag_by (found.Cdata text) node e = sym (tag_of_head node (Text []) (some_is _ _ e))
-tag_by (found.Comment text) node e = sym (tag_of_head node (Comment _) (some_is _ _ e))
-tag_by (found.Instruction target content) node e = sym (tag_of_head node _ (some_is _ _ e))
+tag_by (found.Character c) node e = sym (tag_of_head node (Text []) (same_Some _ _ e))
+tag_by (found.Reference c) node e = sym (tag_of_head node (Text []) (same_Some _ _ e))
+tag_by (found.Cdata text) node e = sym (tag_of_head node (Text []) (same_Some _ _ e))
+tag_by (found.Comment text) node e = sym (tag_of_head node (Comment _) (same_Some _ _ e))
+tag_by (found.Instruction target content) node e = sym (tag_of_head node _ (same_Some _ _ e))
 
 -- a tag as lists of numbers, and back
 abbrev code : List Attribute → List (List ℕ × List ℕ × List ℕ)
@@ -247,14 +247,14 @@ name_of_head (Instruction target content) m e = ap name_of_node e
 
 named_by : (found : Found) (node : Node) → IsRead found → Some (head node) ≡ head_of (item_in found) → chars (written_name found) ≡ name_of_node node
 named_by found.Declaration node r e = absurd (none-some (head node) (sym e))
-named_by (found.StartTag name attributes) node r e = sym (name_of_head node _ (some_is _ _ e) ∙ spells (chars name.now) r.0)
-named_by (found.EmptyTag name attributes) node r e = sym (name_of_head node _ (some_is _ _ e) ∙ spells (chars name.now) r.0)
+named_by (found.StartTag name attributes) node r e = sym (name_of_head node _ (same_Some _ _ e) ∙ spells (chars name.now) r.0)
+named_by (found.EmptyTag name attributes) node r e = sym (name_of_head node _ (same_Some _ _ e) ∙ spells (chars name.now) r.0)
 named_by (found.EndTag name) node r e = absurd (none-some (head node) (sym e))
-named_by (found.Character c) node r e = chars-nil ∙ sym (name_of_head node (Text []) (some_is _ _ e))
-named_by (found.Reference c) node r e = chars-nil ∙ sym (name_of_head node (Text []) (some_is _ _ e))
-named_by (found.Cdata text) node r e = chars-nil ∙ sym (name_of_head node (Text []) (some_is _ _ e))
-named_by (found.Comment text) node r e = chars-nil ∙ sym (name_of_head node (Comment _) (some_is _ _ e))
-named_by (found.Instruction target content) node r e = sym (name_of_head node _ (some_is _ _ e))
+named_by (found.Character c) node r e = chars-nil ∙ sym (name_of_head node (Text []) (same_Some _ _ e))
+named_by (found.Reference c) node r e = chars-nil ∙ sym (name_of_head node (Text []) (same_Some _ _ e))
+named_by (found.Cdata text) node r e = chars-nil ∙ sym (name_of_head node (Text []) (same_Some _ _ e))
+named_by (found.Comment text) node r e = chars-nil ∙ sym (name_of_head node (Comment _) (same_Some _ _ e))
+named_by (found.Instruction target content) node r e = sym (name_of_head node _ (same_Some _ _ e))
 
 -- the place of a node's first item lies in the bytes
 start_of : (bytes : List ℕ) (place : Place) → IsSeen bytes place → place.start ≤ length bytes
@@ -278,7 +278,7 @@ pub name_value : (bytes : List ℕ) (shown : Shown) (k : ℕ) (row : Row) (scann
 name_value bytes shown k row scanned whole shows read at = from_seen _ _ whole (λ w.
     let seen = (stands_at shown bytes k (place_of_row (path_at shown k) row) w shows.place).0 in
     let f : Piece × List ℕ → Item = λ p. p.0.item in
-    let item : seen.piece.item ≡ item_in scanned.found = ap f (some_is _ _ (sym seen.read ∙ at)) in
+    let item : seen.piece.item ≡ item_in scanned.found = ap f (same_Some _ _ (sym seen.read ∙ at)) in
     named_by scanned.found seen.node read (seen.begun ∙ ap head_of item) ∙ ap (λ o. option_map_or name_of_node o []) (sym seen.named))
 
 pub no_name_value : (bytes : List ℕ) (shown : Shown) (k : ℕ) (row : Row) (xs : List ℕ) → ∥ IsShownOf shown bytes ∥₁ → ShowsRow shown k row

@@ -1,6 +1,6 @@
 -- The numbers of the children of a node name its children, one after another, and all of them.
 use Rattle.std.proofs.Common.{◌≡◌, ℕ, zero, suc, ◌+◌, ◌<◌, ◌≤◌, Bool, true, false, cond, ◌&&◌, List, [], ◌∷◌, ◌++◌, length, Option, Some, None, refl, sym, ◌∙◌, ap, subst, arith, ◌⊎◌, inl, inr, add-zero}
-use Rattle.std.proofs.lemmas.Option.{none-some}
+use Rattle.std.proofs.lemmas.Option.{none-some, same_Some}
 use Rattle.std.proofs.lemmas.List.Sorted.{All-permutation}
 use Rattle.std.specs.Prelude.{map, slice_get, option_map, option_and_then}
 use Rattle.std.specs.Option.{option_map_or}
@@ -12,7 +12,7 @@ use Rattle.doc_spans.specs.Seen.{nodes_at}
 use Rattle.doc_spans.specs.Below.{paths_below}
 use Rattle.doc_spans.specs.View.{Each}
 use Rattle.doc_spans.proofs.AllNamed.{Has, all_named}
-use Rattle.doc_spans.proofs.Each.{each_get, some_is}
+use Rattle.doc_spans.proofs.Each.{each_get}
 use Rattle.doc_spans.proofs.Marks.{onto, eq_self}
 use Rattle.doc_spans.proofs.Named.{IsNode, paths}
 use Rattle.doc_spans.proofs.NodeTexts.{stands_at, all_of_each, each_of_all}
@@ -71,7 +71,7 @@ last_number (k ∷ path) a b e = last_number path a b (ap rest e)
 
 get_below : (outer : Path) (i n j : ℕ) (path : Path) → slice_get (paths_below outer i n) j ≡ Some path → (j < n) × (path ≡ outer ++ (i + j) ∷ [])
 get_below outer i zero j path e = absurd (none-some path e)
-get_below outer i (suc n) zero path e = (omega arith, sym (some_is _ path e) ∙ ap (λ m. outer ++ m ∷ []) (sym (add-zero i)))
+get_below outer i (suc n) zero path e = (omega arith, sym (same_Some _ path e) ∙ ap (λ m. outer ++ m ∷ []) (sym (add-zero i)))
 get_below outer i (suc n) (suc j) path e =
     let h = get_below outer (suc i) n j path e in (let l = h.0 in omega (arith, l), h.1 ∙ ap (λ m. outer ++ m ∷ []) (let f : suc i + j ≡ i + suc j = omega arith in f))
 
@@ -99,7 +99,7 @@ child_there : (outer : Path) (k q : ℕ) (places : List Place) (place : Place) �
     → (i : ℕ) × (slice_get (children_from outer k places) i ≡ Some (k + q))
 child_there outer k q [] place e c = absurd (none-some place e)
 child_there outer k zero (first ∷ places) place e c =
-    let is : is_child outer first.path ≡ true = (let f : Place → Bool = λ p. is_child outer p.path in ap f (some_is first place e)) ∙ c in
+    let is : is_child outer first.path ≡ true = (let f : Place → Bool = λ p. is_child outer p.path in ap f (same_Some first place e)) ∙ c in
     (0, ap (λ b. slice_get (cond b (k ∷ children_from outer (suc k) places) (children_from outer (suc k) places)) 0) is ∙ ap Some (sym (add-zero k)))
 child_there outer k (suc q) (first ∷ places) place e c = go (is_child outer first.path) (child_there outer (suc k) q places place e c)
   where
@@ -137,7 +137,7 @@ no_more shown bytes path is numbered = by_length (length (children_of shown path
         let within = each_get (λ q. q < 0 + length shown.places) (children_of shown path) n child.0 (children_within path 0 shown.places) child.1 in
         let place = get_there shown.places child.0 (omega (arith, within)) in
         let at : path_at shown child.0 ≡ path ++ n ∷ [] =
-        some_is _ _ (sym (get_map (path_at shown) (children_of shown path) n ∙ ap (option_map (path_at shown)) child.1)
+        same_Some _ _ (sym (get_map (path_at shown) (children_of shown path) n ∙ ap (option_map (path_at shown)) child.1)
         ∙ ap (λ l. slice_get l n) numbered ∙ below_there path 0 (length (children_of shown path)) n (omega (arith, e)))
         ∙ ap (λ m. path ++ m ∷ []) (let f : 0 + n ≡ n = omega arith in f) in
         let seen = (stands_at shown bytes child.0 place.0 is place.1).0 in
@@ -158,7 +158,7 @@ has_place [] path h none = none-some path h.1
 has_place (place ∷ ps) path h none = by_number (λ k e. has_place ps path (k, e) none.1) h.0 h.1
   where
     by_number : ((k : ℕ) → slice_get (paths ps) k ≡ Some path → ⊥) → (k : ℕ) → slice_get (paths (place ∷ ps)) k ≡ Some path → ⊥
-    by_number further zero e = none.0 (some_is place.path path e)
+    by_number further zero e = none.0 (same_Some place.path path e)
     by_number further (suc k) e = further k e
 
 -- each node of the document has a number

@@ -1,11 +1,10 @@
 -- Each node of the tree has a place.
 use Rattle.std.proofs.Common.{◌≡◌, ℕ, zero, suc, pred, [], ◌∷◌, ◌++◌, Option, Some, None, refl, sym, ◌∙◌, ap, subst, ◌⊎◌, inl, inr}
-use Rattle.std.proofs.lemmas.Option.{none-some}
+use Rattle.std.proofs.lemmas.Option.{none-some, same_Some}
 use Rattle.std.specs.Prelude.{option_and_then}
 use Rattle.std.specs.Option.{option_map_or}
 use Rattle.document_model.specs.Tree.{Node, Nodes, Path, Element, Text, Comment, Instruction, no_nodes, ◌⨾◌, nth, below, descend, node_at, joined, in_nodes_of, in_last, grown, last_of, last_path, count}
 use Rattle.document_model.proofs.Grown.{Spine}
-use Rattle.doc_spans.proofs.Each.{some_is}
 use Rattle.doc_spans.proofs.Spine.{inside}
 
 abbrev Is : Nodes → Path → Type 0
@@ -59,7 +58,7 @@ in_joined (Text cs ⨾ no_nodes) (Instruction target content) (suc k) path m bar
 at_last : (f : Node → Node) (nodes : Nodes) (k : ℕ) (m : Node) → nth k (in_last f nodes) ≡ Some m
     → (nth k nodes ≡ Some m) ⊎ ((last : Node) × (k ≡ pred (count nodes)) × (last_of nodes ≡ Some last) × (nth k nodes ≡ Some last) × (f last ≡ m))
 at_last f no_nodes k m e = absurd (none-some m e)
-at_last f (node ⨾ no_nodes) zero m e = inr (node, refl, refl, refl, some_is (f node) m e)
+at_last f (node ⨾ no_nodes) zero m e = inr (node, refl, refl, refl, same_Some (f node) m e)
 at_last f (node ⨾ no_nodes) (suc k) m e = absurd (none-some m e)
 at_last f (node ⨾ next ⨾ nodes) zero m e = inl e
 at_last f (node ⨾ next ⨾ nodes) (suc k) m e = elim (at_last f (next ⨾ nodes) k m e) [
@@ -94,7 +93,7 @@ in_grown (suc d) x nodes (k ∷ path) m bare s e =
     below_last (j ∷ path) (Comment cs) deeper at is here g = absurd (no_child path (Comment cs) m j refl g)
     below_last (j ∷ path) (Instruction target content) deeper at is here g = absurd (no_child path (Instruction target content) m j refl g)
     below_last (j ∷ path) (Element name attributes inner) deeper at is here g =
-        let spine : Spine d inner = let P : Node → Type 0 = λ n. Spine d (below n) in subst P (some_is s.0 (Element name attributes inner) (sym s.1 ∙ is)) s.3 in
+        let spine : Spine d inner = let P : Node → Type 0 = λ n. Spine d (below n) in subst P (same_Some s.0 (Element name attributes inner) (sym s.1 ∙ is)) s.3 in
         let inside_is : inside (suc d) nodes ≡ inside d inner = ap (λ o. option_map_or (λ node. inside d (below node)) o no_nodes) is in
         let path_is : last_path (suc d) nodes ≡ pred (count nodes) ∷ last_path d inner = ap (λ o. pred (count nodes) ∷ option_map_or (λ node. last_path d (below node)) o []) is in
         elim (deeper (j ∷ path) m bare spine g) [

@@ -1,8 +1,7 @@
 -- What holds of each of a list.
 use Rattle.std.proofs.Common.{◌≡◌, ℕ, zero, suc, List, [], ◌∷◌, ◌++◌, Some, refl, sym, ap, subst}
-use Rattle.std.proofs.lemmas.Option.{none-some}
+use Rattle.std.proofs.lemmas.Option.{none-some, same_Some}
 use Rattle.std.specs.Prelude.{map, slice_get}
-use Rattle.std.specs.Option.{option_map_or}
 use Rattle.doc_spans.specs.View.{Each, Distinct}
 
 pub each_append : {X : Type 0} (P : X → Type 0) (xs ys : List X) → Each P xs → Each P ys → Each P (xs ++ ys)
@@ -29,12 +28,9 @@ pub map_join : {X Y : Type 0} (f : X → Y) (xs ys : List X) → map f (xs ++ ys
 map_join f [] ys = refl
 map_join f (x ∷ xs) ys = ap (λ zs. f x ∷ zs) (map_join f xs ys)
 
-pub some_is : {X : Type 0} (a b : X) → Some a ≡ Some b → a ≡ b
-some_is a b e = ap (λ o. option_map_or (λ x. x) o b) e
-
 pub each_get : {X : Type 0} (P : X → Type 0) (xs : List X) (k : ℕ) (x : X) → Each P xs → slice_get xs k ≡ Some x → P x
 each_get P [] k x h e = absurd (none-some x e)
-each_get P (y ∷ xs) zero x h e = subst P (some_is y x e) h.0
+each_get P (y ∷ xs) zero x h e = subst P (same_Some y x e) h.0
 each_get P (y ∷ xs) (suc k) x h e = each_get P xs k x h.1 e
 
 pub distinct_more : {X : Type 0} (xs : List X) (y : X) → Distinct xs → Each (λ x. x ≡ y → ⊥) xs → Distinct (xs ++ y ∷ [])

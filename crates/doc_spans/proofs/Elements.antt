@@ -1,6 +1,6 @@
 -- What a start tag says of its element, and the steps of a walk through the nodes below it.
 use Rattle.std.proofs.Common.{◌≡◌, ℕ, zero, suc, ◌<◌, ◌≤◌, List, ◌∷◌, Option, Some, None, sym, ◌∙◌, ap, subst, arith}
-use Rattle.std.proofs.lemmas.Option.{none-some}
+use Rattle.std.proofs.lemmas.Option.{none-some, same_Some}
 use Rattle.std.specs.Prelude.{option_and_then}
 use Rattle.std.specs.Option.{option_map_or}
 use Rattle.document_model.specs.Tree.{Node, Nodes, Path, Element, Text, Comment, Instruction, no_nodes, ◌⨾◌, nth}
@@ -10,7 +10,6 @@ use Rattle.doc_spans.specs.declared.documents.NodeId.{NodeId}
 use Rattle.doc_spans.specs.Seen.{NameBelow, node_in, nodes_in, path_in, tag_of_node}
 use Rattle.doc_spans.specs.Sizes.{node_size, nodes_size, size_in}
 use Rattle.doc_spans.proofs.ChildSteps.{NextChild, next_child, nodes_of_node}
-use Rattle.doc_spans.proofs.Each.{some_is}
 
 -- the element of a tag
 pub record IsElementOf (found : Option Node) (tag : Tag) : Type 0 where
@@ -21,7 +20,7 @@ pub element_of : (found : Option Node) (tag : Tag) → Some tag ≡ option_and_t
 element_of None tag e = absurd (none-some tag (sym e))
 element_of (Some (Element name attributes nodes)) tag e = record {
   nodes = nodes;
-  is = ap (λ t. Some (Element t.name t.attributes nodes)) (sym (some_is tag (record { name = name; attributes = attributes }) e));
+  is = ap (λ t. Some (Element t.name t.attributes nodes)) (sym (same_Some tag (record { name = name; attributes = attributes }) e));
 }
 element_of (Some (Text cs)) tag e = absurd (none-some tag (sym e))
 element_of (Some (Comment cs)) tag e = absurd (none-some tag (sym e))
@@ -37,7 +36,7 @@ child_of doc path i numbers behind child e h = let P : List ℕ → Type 0 = Nam
 
 size_nth : (i : ℕ) (nodes : Nodes) (node : Node) → nth i nodes ≡ Some node → node_size node ≤ nodes_size nodes
 size_nth i no_nodes node e = absurd (none-some node e)
-size_nth zero (first ⨾ nodes) node e = let n = ap node_size (some_is first node e) in omega (arith, n)
+size_nth zero (first ⨾ nodes) node e = let n = ap node_size (same_Some first node e) in omega (arith, n)
 size_nth (suc i) (first ⨾ nodes) node e = let h = size_nth i nodes node e in omega (arith, h)
 
 -- a child is smaller than the element that holds it

@@ -1,5 +1,6 @@
 -- The rows of a builder where one row's end moves: a text that goes on, or an element that ends.
 use Rattle.std.proofs.Common.{◌≡◌, ℕ, suc, pred, ◌+◌, ◌<◌, ◌≤◌, true, false, List, [], ◌∷◌, ◌++◌, length, take, drop, Some, refl, sym, ◌∙◌, ap, subst, arith, inl, inr}
+use Rattle.std.proofs.lemmas.Option.{same_Some}
 use Rattle.std.specs.Prelude.{map, slice_get}
 use Rattle.std.specs.Option.{option_map_or}
 use Rattle.document_model.specs.Items.{Piece}
@@ -13,7 +14,6 @@ use Rattle.doc_spans.specs.Building as building
 use Rattle.doc_spans.specs.Building.{State, with_next, with_end, parent_of}
 use Rattle.doc_spans.specs.View.{none, AreBefore}
 use Rattle.doc_spans.specs.View.{siblings, under, paths_of, parents_of, placed, places_of_rows, seen_at}
-use Rattle.doc_spans.proofs.Each.{some_is}
 use Rattle.doc_spans.proofs.Marks.{within_self}
 use Rattle.doc_spans.proofs.Steps.{child_count}
 use Rattle.doc_spans.proofs.View.{get_past, paths_many, parents_many, parents_end, end_many, get_parent, has_paths, end_placed, placed_end, siblings_split, under_get, snoc_same, snoc_some, get_of_paths, get_end}
@@ -105,7 +105,7 @@ builds_end s pieces piece b n i =
     let here : slice_get (paths_of ps) s.current ≡ Some outer = under_get (paths_of ps) s.current (omega (arith, m, l, inside)) ∙ ap Some b.outer in
     let paths_hold = has_paths ps b.before few in
     let parts : (under (paths_of ps) p ≡ later) × (siblings p (take s.current ps) ≡ c) =
-    snoc_same _ _ _ _ (sym (some_is outer _ (sym here ∙ paths_hold s.current p is_parent)) ∙ i.outer) in
+    snoc_same _ _ _ _ (sym (same_Some outer _ (sym here ∙ paths_hold s.current p is_parent)) ∙ i.outer) in
     let row = get_of_paths (places_of_rows s.rows) s.current outer (ap (λ x. slice_get x s.current) (row_paths s.rows) ∙ here) in
     let none_later : siblings p (drop (suc s.current) ps) ≡ 0 = b.last s.current p outer is_parent here (within_self outer) in
     record {
@@ -133,7 +133,7 @@ builds_end s pieces piece b n i =
             let up : p < length s.rows = omega (arith, k, inside) in
             let q = parent_of p s.rows in
             snoc_some (under (paths_of ps) q) (siblings q (take p ps))
-            (some_is _ _ (sym (paths_hold p q (get_parent p s.rows up)) ∙ under_get (paths_of ps) p (omega (arith, m, l, up))) ∙ parts.0 ∙ i.path_none h)
+            (same_Some _ _ (sym (paths_hold p q (get_parent p s.rows up)) ∙ under_get (paths_of ps) p (omega (arith, m, l, up))) ∙ parts.0 ∙ i.path_none h)
             )
         | inr k ↦ k
       ];

@@ -7,13 +7,12 @@ use Rattle.std.proofs.lemmas.List.{take-append-drop, length-take-le}
 use Rattle.std.proofs.lemmas.Str.{chars-nil, chars-append, encodes-chars, is_utf8-from_IsUtf8, IsUtf8-nil, IsUtf8-append, IsUtf8-take, IsUtf8-drop, IsCharBoundary-before_ascii}
 use Rattle.std.specs.Prelude.{encode_utf8_all}
 use Rattle.std.proofs.lemmas.Bool.Decides.{eqb_tells, leb_tells, nat_tests}
-use Rattle.std.proofs.lemmas.Option.{none-some}
+use Rattle.std.proofs.lemmas.Option.{none-some, same_Some}
 use Rattle.std.specs.Option.{option_map_or}
 use Rattle.std.specs.Str.{chars, IsUtf8, is_utf8}
 use Rattle.document_model.specs.Items.{Item, Piece, piece_at, declaration, start_tag, empty_tag, end_tag, character, reference, cdata, comment, instruction}
 use Rattle.document_model.proofs.Joins.{piece_joins}
 use Rattle.doc_spans.specs.Texts.{text_added_by, text_added, IsPartOfText, AreTexts, StandFrom, HoldText, text_of_items, text_between, is_literal_byte, AreLiteral}
-use Rattle.doc_spans.proofs.Each.{some_is}
 use Rattle.doc_spans.proofs.ItemKinds.{IsLiteral, literal_piece}
 use Rattle.doc_spans.proofs.Run.{piece_has}
 
@@ -224,7 +223,7 @@ first_of bytes start next end item apart less within e [] at t = absurd (apart a
 first_of bytes start next end item apart less within e (piece ∷ pieces) at t =
     let n = length-take-le (next - start) (drop start bytes) (let l = length-drop start bytes in omega (arith, l, within, less)) in
     let f : Piece × List ℕ → Piece = λ p. p.0 in
-    let same : piece ≡ record { text = take (next - start) (drop start bytes); item = item } = ap f (some_is _ _ (sym at.0 ∙ e)) in
+    let same : piece ≡ record { text = take (next - start) (drop start bytes); item = item } = ap f (same_Some _ _ (sym at.0 ∙ e)) in
     let len : start + length piece.text ≡ next = (let m = ap (λ (p : Piece). length p.text) same in omega (arith, m, n, less)) in
     let kind : piece.item ≡ item = ap (λ (p : Piece). p.item) same in
     let P : ℕ → Type 0 = λ k. StandFrom bytes k end pieces in record {

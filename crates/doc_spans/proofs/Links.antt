@@ -1,6 +1,6 @@
 -- The links of the rows while they are built.
 use Rattle.std.proofs.Common.{◌≡◌, ℕ, zero, suc, ◌+◌, ◌<◌, ◌≤◌, Bool, true, false, cond, List, [], ◌∷◌, ◌++◌, length, drop, Option, Some, refl, sym, ◌∙◌, ap, subst, arith, length-append, length-drop, ◌⊎◌, inl, inr}
-use Rattle.std.proofs.lemmas.Option.{none-some}
+use Rattle.std.proofs.lemmas.Option.{none-some, same_Some}
 use Rattle.std.proofs.lemmas.Bool.{ne_eqb, eq-eqb}
 use Rattle.std.proofs.lemmas.Bool.Decides.{eqb_tells}
 use Rattle.std.specs.Prelude.{slice_get}
@@ -12,7 +12,6 @@ use Rattle.doc_spans.specs.Marks.{size, items_of, open_path}
 use Rattle.doc_spans.specs.Building as building
 use Rattle.doc_spans.specs.Building.{State, with_next, with_end, parent_of}
 use Rattle.doc_spans.specs.View.{none, siblings, paths_of, parents_of, next_from, AreBefore, AreLinked, FirstIsNext}
-use Rattle.doc_spans.proofs.Each.{some_is}
 use Rattle.doc_spans.proofs.Marks.{within_self}
 use Rattle.doc_spans.proofs.Steps.{child_count}
 use Rattle.doc_spans.proofs.View.{get_front, get_last, get_inside, get_either, parents_more, parents_many, parents_next, parents_end, next_many, end_many, get_parent, drop_front, drop_one_more, siblings_split, under_get, paths_many}
@@ -34,14 +33,14 @@ pub record Links (s : State) (pieces : List Piece) : Type 0 where
 
 pub get_row_parent : (rows : List Row) (k : ℕ) (row : Row) → slice_get rows k ≡ Some row → slice_get (parents_of rows) k ≡ Some row.parent
 get_row_parent [] k row e = absurd (none-some row e)
-get_row_parent (first ∷ rows) zero row e = let f : Row → Option ℕ = λ r. Some r.parent in ap f (some_is first row e)
+get_row_parent (first ∷ rows) zero row e = let f : Row → Option ℕ = λ r. Some r.parent in ap f (same_Some first row e)
 get_row_parent (first ∷ rows) (suc k) row e = get_row_parent rows k row e
 
 get_next : (j n : ℕ) (rows : List Row) (k : ℕ) (row : Row) → slice_get (with_next j n rows) k ≡ Some row
     → ((k ≡ j) × (row.next ≡ n) × (slice_get (parents_of rows) k ≡ Some row.parent)) ⊎ ((k ≡ j → ⊥) × (slice_get rows k ≡ Some row))
 get_next j n [] k row e = absurd (none-some row e)
 get_next zero n (first ∷ rows) zero row e =
-    let is = some_is (record first { next = n }) row e in
+    let is = same_Some (record first { next = n }) row e in
     let f : Row → Option ℕ = λ r. Some r.parent in
     let g : Row → ℕ = λ r. r.next in inl (refl, sym (ap g is), ap f is)
 get_next zero n (first ∷ rows) (suc k) row e = inr (λ h. omega (arith, h), e)
@@ -55,7 +54,7 @@ get_ended : (j n : ℕ) (rows : List Row) (k : ℕ) (row : Row) → slice_get (w
     → (old : Row) × (slice_get rows k ≡ Some old) × (old.parent ≡ row.parent) × (old.next ≡ row.next)
 get_ended j n [] k row e = absurd (none-some row e)
 get_ended zero n (first ∷ rows) zero row e =
-    let is = some_is (record first { end = n }) row e in
+    let is = same_Some (record first { end = n }) row e in
     let f : Row → ℕ = λ r. r.parent in
     let g : Row → ℕ = λ r. r.next in (first, refl, ap f is, ap g is)
 get_ended zero n (first ∷ rows) (suc k) row e = (row, e, refl, refl)
@@ -121,7 +120,7 @@ linked_more rows previous new few last_one linked which k row e =
             | inl here ↦ elim which [
               | inl no_child ↦ absurd (omega (arith, here.0, no_child.1, old.0, m, few))
               | inr child ↦
-                  let is : row.parent ≡ new.parent = some_is row.parent new.parent (sym here.2 ∙ ap (slice_get ps) here.0 ∙ child.0) in
+                  let is : row.parent ≡ new.parent = same_Some row.parent new.parent (sym here.2 ∙ ap (slice_get ps) here.0 ∙ child.0) in
                   let none_later : siblings row.parent (drop (suc k) ps) ≡ 0 = ap (λ p. siblings p (drop (suc k) ps)) is ∙ ap (λ j. siblings new.parent (drop (suc j) ps)) here.0 ∙ child.1 in
                   here.1
                   ∙ (let a : length rows ≡ suc k + length (drop (suc k) ps) = omega (arith, length-drop (suc k) ps, n, inside) in a)

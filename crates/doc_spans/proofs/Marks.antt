@@ -44,9 +44,6 @@ ended (piece ∷ before) = by_start (begins_node (items_of before) piece.item) _
 abbrev stretched : ℕ → (Path → ℕ) → Place → Place
 stretched at more place = cond (nat_eq place.end at) (record place { end = at + more place.path }) place
 
-same_end : (a b : ℕ) → nat_eq a b ≡ false → (x y : Place) → cond (nat_eq a b) x y ≡ y
-same_end a b e x y = ap (λ t. cond t x y) e
-
 pub eq_self : (n : ℕ) → nat_eq n n ≡ true
 eq_self n = elim (eqb_tells n n) [ inl t ↦ t.0 | inr t ↦ absurd (t.1 refl) ]
 

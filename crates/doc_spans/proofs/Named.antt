@@ -1,6 +1,6 @@
 -- Each place names a node of the tree, and no two name the same.
 use Rattle.std.proofs.Common.{◌≡◌, ℕ, Bool, true, false, not, cond, ◌&&◌, ◌||◌, List, [], ◌∷◌, ◌++◌, Option, Some, None, refl, sym, ◌∙◌, ap, subst, nat_eq}
-use Rattle.std.proofs.lemmas.Option.{none-some}
+use Rattle.std.proofs.lemmas.Option.{none-some, same_Some}
 use Rattle.std.specs.Prelude.{map, option_map, option_and_then}
 use Rattle.document_model.specs.Items.{Item, Piece, declaration, start_tag, empty_tag, end_tag, character, reference, cdata, comment, instruction}
 use Rattle.document_model.specs.Tree.{Node, Nodes, Path, Element, Text, Comment, Instruction, no_nodes, ◌⨾◌, nth, descend, node_at, joined, grown, depth, added_by, added_at, tree_after, count}
@@ -9,7 +9,7 @@ use Rattle.document_model.specs.NodeSets.{is_within}
 use Rattle.document_model.specs.Places.{Place, path_of, begins_node}
 use Rattle.document_model.proofs.Grown.{spine_stays, added_start}
 use Rattle.doc_spans.specs.Marks.{size, items_of, gone_on, begun, places_after, Follow, open_path}
-use Rattle.doc_spans.proofs.Each.{each_append, each_map, each_weaker, map_map, map_join, some_is, distinct_more}
+use Rattle.doc_spans.proofs.Each.{each_append, each_map, each_weaker, map_map, map_join, distinct_more}
 use Rattle.doc_spans.specs.View.{Each, Distinct}
 use Rattle.doc_spans.proofs.Spine.{inside_grown, path_grown, at_inside, none_behind}
 use Rattle.doc_spans.proofs.Stays.{head, stays}
@@ -84,7 +84,7 @@ named_begun before (instruction target content) h e = named_new before _ _ _ h (
 -- and it goes on to
 some_of_map : (o : Option Node) (m : Node) → option_map head o ≡ Some m → (node : Node) × (o ≡ Some node) × (head node ≡ m)
 some_of_map None m e = absurd (none-some m e)
-some_of_map (Some node) m e = (node, refl, some_is (head node) m e)
+some_of_map (Some node) m e = (node, refl, same_Some (head node) m e)
 
 pub named_on : (d : ℕ) (x tree : Nodes) (path : Path) (found : Option Node) → Names tree path found → Names (grown d x tree) path found
 named_on d x tree path found h =

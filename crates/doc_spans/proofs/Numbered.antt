@@ -1,6 +1,6 @@
 -- The children of a node, by rising numbers, have the paths of its first child, its second, and so on.
 use Rattle.std.proofs.Common.{◌≡◌, ℕ, zero, suc, ◌+◌, ◌<◌, ◌≤◌, ◌⊎◌, subst, Bool, true, false, cond, List, [], ◌∷◌, ◌++◌, length, take, drop, Some, sym, ◌∙◌, ap, arith, nat_eq, inl, inr}
-use Rattle.std.proofs.lemmas.Option.{none-some}
+use Rattle.std.proofs.lemmas.Option.{none-some, same_Some}
 use Rattle.std.proofs.lemmas.Bool.Decides.{eqb_tells}
 use Rattle.std.specs.Prelude.{map, slice_get}
 use Rattle.document_model.specs.Tree.{Path}
@@ -10,13 +10,12 @@ use Rattle.doc_spans.specs.View.{siblings, under, paths_of, parents_of, places_o
 use Rattle.doc_spans.specs.Below.{paths_below}
 use Rattle.doc_spans.specs.Shown.{Shown, shown_of, path_at, children_from, children_of}
 use Rattle.doc_spans.proofs.Builds.{row_paths}
-use Rattle.doc_spans.proofs.Each.{some_is}
 use Rattle.doc_spans.proofs.View.{get_inside, parents_many, has_paths, under_get}
 use Rattle.doc_spans.proofs.Shows.{IsNumber, few_parents, child_of, drop_get, drop_past, get_or_past, path_of_place, shown_many}
 
 siblings_taken : (n : ℕ) (ps : List ℕ) (j p : ℕ) → slice_get ps j ≡ Some p → siblings n (take (suc j) ps) ≡ cond (nat_eq p n) (suc (siblings n (take j ps))) (siblings n (take j ps))
 siblings_taken n [] j p e = absurd (none-some p e)
-siblings_taken n (q ∷ ps) zero p e = ap (λ x. cond (nat_eq x n) (suc zero) zero) (some_is q p e)
+siblings_taken n (q ∷ ps) zero p e = ap (λ x. cond (nat_eq x n) (suc zero) zero) (same_Some q p e)
 siblings_taken n (q ∷ ps) (suc j) p e = counted (nat_eq q n) (nat_eq p n) (siblings_taken n ps j p e)
   where
     counted : (b d : Bool) → siblings n (take (suc j) ps) ≡ cond d (suc (siblings n (take j ps))) (siblings n (take j ps))
@@ -65,7 +64,7 @@ children_numbered rows t n number (suc m) j e = elim (get_or_past (places_of_row
               let is : children_from outer j (drop j (places_of_rows rows)) ≡ j ∷ rest = list ∙ ap (λ b. cond b (j ∷ rest) rest) s.0 in
               let more : siblings n (take (suc j) ps) ≡ suc (siblings n (take j ps)) = taken ∙ ap (λ b. cond b (suc (siblings n (take j ps))) (siblings n (take j ps))) s.0 in
               let first : under (paths_of ps) j ≡ outer ++ siblings n (take j ps) ∷ [] =
-              some_is _ _ (sym (under_get (paths_of ps) j (get_inside (paths_of ps) j place.path path_at_j)) ∙ has_paths ps t.before (omega (arith, few)) j p g)
+              same_Some _ _ (sym (under_get (paths_of ps) j (get_inside (paths_of ps) j place.path path_at_j)) ∙ has_paths ps t.before (omega (arith, few)) j p g)
               ∙ ap (λ q. under (paths_of ps) q ++ siblings q (take j ps) ∷ []) s.1 in
               ap (map (under (paths_of ps))) is
               ∙ (λ i. (first i ∷ (others ∙ ap (λ c. paths_below outer c (length rest)) more) i))

@@ -1,15 +1,14 @@
 -- The scope of a node is that of the element around it, with its own tag.
 use Rattle.std.proofs.Common.{◌≡◌, ℕ, List, [], ◌∷◌, Option, Some, None, refl, ◌∙◌, ap}
-use Rattle.std.proofs.lemmas.Option.{none-some}
+use Rattle.std.proofs.lemmas.Option.{none-some, same_Some}
 use Rattle.std.specs.Prelude.{option_and_then}
 use Rattle.std.specs.Option.{option_map_or}
 use Rattle.document_model.specs.Tree.{Node, Nodes, Path, nth, below, descend, node_at}
 use Rattle.document_model.specs.Scopes.{Tag, with_tag_of, elements_down, elements_around, tags_down, tags_at}
 use Rattle.doc_spans.specs.Shown.{outer_path}
-use Rattle.doc_spans.proofs.Each.{some_is}
 
 tags_with : (path : Path) (node m : Node) (outer : List Tag) → descend path node ≡ Some m → tags_down path node outer ≡ with_tag_of m (elements_down path node outer)
-tags_with [] node m outer e = ap (λ n. with_tag_of n outer) (some_is node m e)
+tags_with [] node m outer e = ap (λ n. with_tag_of n outer) (same_Some node m e)
 tags_with (k ∷ path) node m outer e = by_child (λ child f. tags_with path child m (with_tag_of node outer) f) (nth k (below node)) e
   where
     by_child : ((child : Node) → descend path child ≡ Some m → tags_down path child (with_tag_of node outer) ≡ with_tag_of m (elements_down path child (with_tag_of node outer)))

@@ -1,18 +1,15 @@
 -- The steps of a builder over the whole run of a document give its tree.
-use Rattle.std.proofs.Common.{◌≡◌, ℕ, ◌+◌, ◌≤◌, List, [], ◌∷◌, ◌++◌, length, None, ap, arith, length-append}
+use Rattle.std.proofs.Common.{◌≡◌, ℕ, ◌+◌, ◌≤◌, List, [], ◌∷◌, ◌++◌, length, ap, arith, length-append}
 use Rattle.std.specs.Prelude.{flat_map}
 use Rattle.document_model.specs.Items.{Piece}
-use Rattle.document_model.specs.Documents.{run, limits, fault}
+use Rattle.document_model.specs.Documents.{run, limits}
 use Rattle.document_model.proofs.Joins.{run_joins}
 use Rattle.doc_spans.specs.Marks.{size, items_of, Follow, shape_of}
 use Rattle.doc_spans.specs.Building.{State, step, new}
-use Rattle.doc_spans.specs.Shown.{shown_of, IsShownOf}
-use Rattle.doc_spans.specs.View.{IsTree}
 use Rattle.doc_spans.proofs.Marks.{HaveBytes, onto}
 use Rattle.doc_spans.proofs.Links.{Built}
 use Rattle.doc_spans.proofs.Turn.{built_none, built_more}
 use Rattle.doc_spans.proofs.Run.{run_good}
-use Rattle.doc_spans.proofs.Whole.{tree_is, tree_of_run}
 
 -- the state after pieces, behind others, the last one first
 abbrev pub steps_over : State → List Piece → List Piece → State
@@ -44,9 +41,3 @@ built_of_run bytes small =
     let m : length (flat_map (λ piece. piece.text) (run limits bytes).pieces ++ (run limits bytes).rest) ≡ length bytes = ap length (run_joins limits (length bytes) [] bytes) in
     let l = length-append (flat_map (λ piece. piece.text) (run limits bytes).pieces) (run limits bytes).rest in
     built_over (run limits bytes).pieces [] new built_none good.bytes good.follow (omega (arith, n, m, l, small))
-
--- Whatever document is read: the rows after its items are its tree.
-pub tree_of_bytes : (bytes : List ℕ) → length bytes ≤ 16777216 → fault bytes ≡ None
-    → IsTree (steps_over new [] (run limits bytes).pieces).rows × IsShownOf (shown_of (steps_over new [] (run limits bytes).pieces).rows) bytes
-tree_of_bytes bytes small whole =
-    let b = built_of_run bytes small in (tree_is _ _ b, tree_of_run _ bytes b whole)

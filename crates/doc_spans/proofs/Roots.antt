@@ -2,7 +2,7 @@
 use Rattle.std.proofs.Common.{◌≡◌, ℕ, zero, suc, pred, ◌<◌, Bool, true, false, ◌&&◌, List, [], ◌∷◌, ◌++◌, length, Option, Some, None, refl, sym, ◌∙◌, ap, subst, arith, inl, inr}
 use Rattle.std.proofs.Math.Logic.{∥∥₁_elim}
 use Rattle.std.proofs.lemmas.Bool.{cases_eq}
-use Rattle.std.proofs.lemmas.Option.{none-some}
+use Rattle.std.proofs.lemmas.Option.{none-some, same_Some}
 use Rattle.std.specs.Prelude.{option_map}
 use Rattle.document_model.specs.Characters.{is_empty}
 use Rattle.document_model.specs.Names.{Name}
@@ -20,7 +20,6 @@ use Rattle.doc_spans.specs.Seen.{NameBelow, document_in, shown_in}
 use Rattle.doc_spans.proofs.ChildSteps.{NextChild, no_child_left}
 use Rattle.doc_spans.specs.Marks.{items_of, Follow, open_path}
 use Rattle.doc_spans.specs.Shown.{kind_of, path_at}
-use Rattle.doc_spans.proofs.Each.{some_is}
 use Rattle.doc_spans.proofs.Marks.{onto}
 use Rattle.doc_spans.proofs.Named.{named_begun}
 use Rattle.doc_spans.proofs.Run.{run_good}
@@ -56,7 +55,7 @@ still before item h =
   where
     some_of : (o : Option Node) (m : Node) → option_map head o ≡ Some m → (node : Node) × (o ≡ Some node) × (head node ≡ m)
     some_of None m e = absurd (none-some m e)
-    some_of (Some node) m e = (node, refl, some_is (head node) m e)
+    some_of (Some node) m e = (node, refl, same_Some (head node) m e)
 
 empty_begun : (name : Name) (attributes : List Attribute) (before : List Item) (d : ℕ) → depth before ≡ d → Follow before → HasElement (tree_after (empty_tag name attributes ∷ before))
 empty_begun name attributes before zero e h =
@@ -65,7 +64,7 @@ empty_begun name attributes before zero e h =
     let at_top : open_path before ≡ [] = ap (λ d. last_path d (tree_after before)) e in
     let k = child_count before in
     let here : nth k tree ≡ Some named.0 = sym (found_self (nth k tree)) ∙ ap (λ p. node_at tree (p ++ k ∷ [])) (sym at_top) ∙ named.1 in
-    (k, named.0, here, is_element_head named.0 name attributes (some_is (head named.0) (Element name attributes no_nodes) named.2))
+    (k, named.0, here, is_element_head named.0 name attributes (same_Some (head named.0) (Element name attributes no_nodes) named.2))
 empty_begun name attributes before (suc d) e h =
     let P : ℕ → Type 0 = λ n. Spine n (tree_after (empty_tag name attributes ∷ before)) in
     by_spine d (tree_after (empty_tag name attributes ∷ before)) (subst P e (spine (empty_tag name attributes ∷ before) (tt, h)))
@@ -121,5 +120,5 @@ pub passed_more : (doc : Doc) (i number : ℕ) (numbers : List ℕ) (kind : Kind
 passed_more doc i number numbers kind next is other passed k h e = elim (cases_eq k i) [
   | inr apart ↦ passed k (omega (arith, h, apart)) e
   | inl same ↦
-      other (some_is kind kinds.Element (sym is ∙ ap (option_map kind_of) next.named ∙ sym (ap (option_map kind_of) next.nth_is) ∙ ap (λ n. option_map kind_of (nth n (document_in doc))) (sym same) ∙ e))
+      other (same_Some kind kinds.Element (sym is ∙ ap (option_map kind_of) next.named ∙ sym (ap (option_map kind_of) next.nth_is) ∙ ap (λ n. option_map kind_of (nth n (document_in doc))) (sym same) ∙ e))
 ]

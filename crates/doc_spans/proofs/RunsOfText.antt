@@ -1,21 +1,26 @@
 -- A run of characters that only go on with a text is read at once.
-use Rattle.std.proofs.Common.{◌≡◌, ℕ, zero, suc, ◌+◌, ◌<◌, ◌≤◌, Bool, true, false, not, cond, ◌&&◌, ◌||◌, nat_eq, nat_le, List, [], ◌∷◌, length, drop, Some, refl, sym, ◌∙◌, ap, subst, arith, length-drop}
+use Rattle.std.proofs.Common.{append_assoc, ◌≡◌, ℕ, zero, suc, ◌+◌, ◌<◌, ◌≤◌, Bool, true, false, not, cond, ◌&&◌, ◌||◌, nat_eq, nat_le, List, [], ◌∷◌, ◌++◌, length, take, drop, Some, refl, sym, ◌∙◌, ap, subst, arith, length-drop, length-append}
 use Rattle.std.proofs.lemmas.Bool.{and_parts, le-leb}
-use Rattle.std.proofs.Math.Seq.{drop-drop}
-use Rattle.std.specs.Prelude.{option_and_then}
-use Rattle.document_model.specs.Characters.{is_empty, is_white, span}
+use Rattle.std.proofs.Math.Seq.{drop-drop, drop-append_seam}
+use Rattle.std.proofs.lemmas.List.{append-nil, take-append-drop, length-take-le}
+use Rattle.std.proofs.lemmas.Str.{length-encode, len_utf8_bounds, encodes-chars}
+use Rattle.std.specs.Char.{encode_utf8}
+use Rattle.std.specs.List.{list_all}
+use Rattle.std.specs.Str.{IsUtf8, chars}
+use Rattle.std.specs.Prelude.{option_and_then, encode_utf8_all}
+use Rattle.document_model.specs.Characters.{is_empty, is_white}
 use Rattle.document_model.specs.Tree.{depth}
 use Rattle.document_model.specs.Items.{Piece, character, when}
 use Rattle.document_model.specs.Documents.{limits}
-use Rattle.xml_items.specs.Runs.{is_ordinary}
-use Rattle.xml_items.proofs.OrdinaryCharacters.{ordinary_is, ordinary_piece}
+use Rattle.xml_items.specs.Runs.{is_text}
+use Rattle.xml_items.proofs.TextCharacters.{text_piece, text_no_greater, text_no_bracket}
 use Rattle.doc_spans.specs.Marks.{items_of}
 use Rattle.doc_spans.specs.declared.rows.Row.{Row}
 use Rattle.doc_spans.specs.declared.rows.Shape.TheVariants.{Characters}
 use Rattle.doc_spans.specs.declared.rows.Kind.TheVariants.{Text}
 use Rattle.doc_spans.specs.View.{none}
 use Rattle.doc_spans.specs.Building.{State, step, gone_on, begun, with_end}
-use Rattle.doc_spans.specs.Standing.{Standing, goes_on, run_here, new_texts, may_stand, is_deep, is_one_too_many, legal_here, legal_within_here, after}
+use Rattle.doc_spans.specs.Standing.{Standing, goes_on, new_texts, may_stand, is_deep, is_one_too_many, legal_here, legal_within_here, after}
 use Rattle.doc_spans.proofs.Standings.{flat}
 use Rattle.doc_spans.proofs.ReadSoFar.{ReadTo, read_next}
 
@@ -67,15 +72,15 @@ stays c s h bracket =
     let nodes : new_texts s (c ∷ []) + s.nodes ≡ s.nodes = ap (λ n. n + s.nodes) (no_more_nodes c s h) ∙ (let z : 0 + s.nodes ≡ s.nodes = omega arith in z) in
     (λ i. record { outer = s.outer; begun = s.begun; first = first i; front = front i; bracket = one i; brackets = two i; in_text = text i; nodes = nodes i })
 
-is_legal : (c : ℕ) (behind : List ℕ) (s : Standing) → GoesOn s → is_ordinary c ≡ true → s.nodes ≤ limits.nodes
-    → legal_within_here s (c ∷ behind) ≡ Some (record { text = c ∷ []; item = character c }, behind)
+is_legal : (c : ℕ) (behind : List ℕ) (s : Standing) → GoesOn s → is_text c ≡ true → s.nodes ≤ limits.nodes
+    → legal_within_here s (encode_utf8 c ++ behind) ≡ Some (record { text = encode_utf8 c; item = character c }, behind)
 is_legal c behind s h o few =
-    let found : Piece × List ℕ = (record { text = c ∷ []; item = character c }, behind) in
-    let greater = (ordinary_is c o).no_greater in
+    let found : Piece × List ℕ = (record { text = encode_utf8 c; item = character c }, behind) in
+    let greater = text_no_greater c o in
     let stands : may_stand s (character c) ≡ true = ap (λ b. cond b (is_white c || (nat_eq c 0xFEFF && s.first)) (not (nat_eq c 0x3E && s.brackets))) h.inside ∙ ap (λ b. not (b && s.brackets)) greater in
     let enough : is_one_too_many s (character c) ≡ false = ap (λ n. not (nat_le n limits.nodes)) (ap (λ n. n + s.nodes) (no_more_nodes c s h) ∙ (let z : 0 + s.nodes ≡ s.nodes = omega arith in z)) ∙ ap not (le-leb s.nodes limits.nodes few) in
-    let here : legal_here s (c ∷ behind) ≡ Some found =
-    ap (option_and_then (λ f. when (may_stand s f.0.item) f)) (ordinary_piece c behind o) ∙ ap (λ b. when b found) stands in
+    let here : legal_here s (encode_utf8 c ++ behind) ≡ Some found =
+    ap (option_and_then (λ f. when (may_stand s f.0.item) f)) (text_piece c behind o) ∙ ap (λ b. when b found) stands in
     ap (option_and_then (λ f. when (not (is_deep s f.0.item) && not (is_one_too_many s f.0.item)) f)) here
     ∙ ap (λ b. when (not b) found) enough
 
@@ -111,57 +116,57 @@ builder_goes_on bytes at s st r h =
     let outside : nat_eq (depth before) 0 ≡ false = sym (flat before) ∙ sym (ap (λ x. is_empty x.outer) r.stands) ∙ h.inside in
     r.rows.0.text (more_than_none (depth before) outside) ∙ sym (ap (λ x. x.in_text) r.stands) ∙ h.text
 
-one_on : (c : ℕ) (behind bytes : List ℕ) (at : ℕ) (s : State) (st : Standing) → length bytes ≤ 16777216 → drop at bytes ≡ c ∷ behind → is_ordinary c ≡ true → GoesOn st → ReadTo bytes at s st
-    → ReadTo bytes (at + 1) (step Characters (at + 1) s) st
+one_on : (c : ℕ) (behind bytes : List ℕ) (at : ℕ) (s : State) (st : Standing) → length bytes ≤ 16777216 → drop at bytes ≡ encode_utf8 c ++ behind → is_text c ≡ true → GoesOn st → ReadTo bytes at s st
+    → (drop (at + length (encode_utf8 c)) bytes ≡ behind) × ReadTo bytes (at + length (encode_utf8 c)) (step Characters (at + length (encode_utf8 c)) s) st
 one_on c behind bytes at s st small d o h r =
-    let next : drop (at + 1) bytes ≡ behind = sym (drop-drop 1 at bytes) ∙ ap (drop 1) d in
-    let size : suc (length behind) ≡ length (drop at bytes) = ap length (sym d) in
-    let within : at + 1 ≤ length bytes = omega (arith, size, length-drop at bytes) in
-    let P : List ℕ → Type 0 = λ x. legal_within_here st x ≡ Some (record { text = c ∷ []; item = character c }, drop (at + 1) bytes) in
-    let legal = subst P (sym d) (is_legal c behind st h o r.few ∙ ap (λ x. Some (record { text = c ∷ []; item = character c }, x)) (sym next)) in
-    read_next bytes at (at + 1) s (step Characters (at + 1) s) st st (record { text = c ∷ []; item = character c }) small within r legal refl (sym (stays c st h (ordinary_is c o).no_bracket))
+    let n : ℕ = length (encode_utf8 c) in
+    let some : 1 ≤ n = omega (arith, length-encode c, (len_utf8_bounds c).0) in
+    let next : drop (at + n) bytes ≡ behind = sym (drop-drop n at bytes) ∙ ap (drop n) d ∙ drop-append_seam (encode_utf8 c) behind in
+    let size : n + length behind ≡ length (drop at bytes) = sym (length-append (encode_utf8 c) behind) ∙ ap length (sym d) in
+    let within : at + n ≤ length bytes = omega (arith, size, some, length-drop at bytes) in
+    let piece : Piece = record { text = encode_utf8 c; item = character c } in
+    let P : List ℕ → Type 0 = λ x. legal_within_here st x ≡ Some (piece, drop (at + n) bytes) in
+    let legal = subst P (sym d) (is_legal c behind st h o r.few ∙ ap (λ x. Some (piece, x)) (sym next)) in
+    (next, read_next bytes at (at + n) s (step Characters (at + n) s) st st piece small within r legal refl (sym (stays c st h (text_no_bracket c o))))
 
-pub read_run : (rest bytes : List ℕ) (at : ℕ) (s : State) (st : Standing) → length bytes ≤ 16777216 → drop at bytes ≡ rest → GoesOn st → 0 < length (span is_ordinary rest).0 → ReadTo bytes at s st
-    → ReadTo bytes (at + length (span is_ordinary rest).0) (step Characters (at + length (span is_ordinary rest).0) s) st
-read_run [] bytes at s st small d h some r = absurd (omega (arith, some))
-read_run (c ∷ behind) bytes at s st small d h some r =
-    let next : drop (at + 1) bytes ≡ behind = sym (drop-drop 1 at bytes) ∙ ap (drop 1) d in
-    by_test (λ o more. read_run behind bytes (at + 1) (step Characters (at + 1) s) st small next h more (one_on c behind bytes at s st small d o h r)) (is_ordinary c) refl some
-  where
-    n : ℕ
-    n = length (span is_ordinary behind).0
-
-    Read : ℕ → Type 0
-    Read k = ReadTo bytes k (step Characters k s) st
-
-    Later : Type 0
-    Later = ReadTo bytes (at + 1 + n) (step Characters (at + 1 + n) (step Characters (at + 1) s)) st
-
-    others : (k : ℕ) → n ≡ k → Read (at + 1) → (0 < n → Later) → Read (at + suc n)
-    others zero e one later = let m : at + 1 ≡ at + suc n = omega (arith, e) in subst Read m one
-    others (suc k) e one later =
-        let P : State → Type 0 = λ x. ReadTo bytes (at + 1 + n) x st in
-        let m : at + 1 + n ≡ at + suc n = omega arith in
-        subst Read m (subst P (step_again (at + 1) (at + 1 + n) s (builder_goes_on bytes at s st r h)) (later (omega (arith, e))))
-
-    split : Bool → List ℕ × List ℕ
-    split t = cond t (c ∷ (span is_ordinary behind).0, (span is_ordinary behind).1) ([], c ∷ behind)
-
-    by_test : (is_ordinary c ≡ true → 0 < n → Later) → (t : Bool) → is_ordinary c ≡ t → 0 < length (split t).0 → Read (at + length (split t).0)
-    by_test later false o more = absurd (omega (arith, more))
-    by_test later true o more = others n refl (one_on c behind bytes at s st small d o h r) (later o)
+-- characters, one after another
+read_text : (c : ℕ) (cs rest bytes : List ℕ) (at : ℕ) (s : State) (st : Standing) → length bytes ≤ 16777216 → drop at bytes ≡ encode_utf8_all (c ∷ cs) ++ rest → list_all is_text (c ∷ cs) ≡ true → GoesOn st → ReadTo bytes at s st
+    → ReadTo bytes (at + length (encode_utf8_all (c ∷ cs))) (step Characters (at + length (encode_utf8_all (c ∷ cs))) s) st
+read_text c [] rest bytes at s st small d all h r =
+    let one = one_on c rest bytes at s st small (d ∙ ap (λ x. x ++ rest) (append-nil (encode_utf8 c))) (and_parts (is_text c) true all).0 h r in
+    let P : ℕ → Type 0 = λ k. ReadTo bytes (at + k) (step Characters (at + k) s) st in
+    subst P (ap length (sym (append-nil (encode_utf8 c)))) one.1
+read_text c (e ∷ cs) rest bytes at s st small d all h r =
+    let both = and_parts (is_text c) (list_all is_text (e ∷ cs)) all in
+    let n : ℕ = length (encode_utf8 c) in
+    let m : ℕ = length (encode_utf8_all (e ∷ cs)) in
+    let one = one_on c (encode_utf8_all (e ∷ cs) ++ rest) bytes at s st small (d ∙ append_assoc (encode_utf8 c) (encode_utf8_all (e ∷ cs)) rest) both.0 h r in
+    let later = read_text e cs rest bytes (at + n) (step Characters (at + n) s) st small one.0 both.1 h one.1 in
+    let P : State → Type 0 = λ x. ReadTo bytes (at + n + m) x st in
+    let Q : ℕ → Type 0 = λ k. ReadTo bytes k (step Characters k s) st in
+    let place : at + n + m ≡ at + length (encode_utf8_all (c ∷ e ∷ cs)) = omega (arith, length-append (encode_utf8 c) (encode_utf8_all (e ∷ cs))) in
+    subst Q place (subst P (step_again (at + n) (at + n + m) s (builder_goes_on bytes at s st r h)) later)
 
 -- The reader's turn that takes a run.
-pub run_next : (bytes : List ℕ) (at n : ℕ) (s next : State) (st : Standing) → length bytes ≤ 16777216 → n ≡ run_here st (drop at bytes) → 0 < n → ReadTo bytes at s st
+pub run_next : (bytes : List ℕ) (at n : ℕ) (s next : State) (st : Standing) → length bytes ≤ 16777216 → at + n ≤ length bytes → 0 < n → goes_on st ≡ true
+    → IsUtf8 (take n (drop at bytes)) → list_all is_text (chars (take n (drop at bytes))) ≡ true → ReadTo bytes at s st
     → next ≡ step Characters (at + n) s → ReadTo bytes (at + n) next st
-run_next bytes at n s next st small e some r f = by_test (goes_on st) refl e
+run_next bytes at n s next st small bound some o utf8 all r f = by_characters (chars text) refl
   where
-    run : ℕ
-    run = length (span is_ordinary (drop at bytes)).0
+    text : List ℕ
+    text = take n (drop at bytes)
 
-    by_test : (t : Bool) → goes_on st ≡ t → n ≡ cond t run 0 → ReadTo bytes (at + n) next st
-    by_test false o m = absurd (omega (arith, m, some))
-    by_test true o m =
+    size : length text ≡ n
+    size = length-take-le n (drop at bytes) (omega (arith, bound, length-drop at bytes))
+
+    by_characters : (cs : List ℕ) → chars text ≡ cs → ReadTo bytes (at + n) next st
+    by_characters [] e =
+        let none : 0 ≡ length text = ap (λ x. length (encode_utf8_all x)) (sym e) ∙ ap length (encodes-chars text utf8) in
+        absurd (omega (arith, none, size, some))
+    by_characters (c ∷ cs) e =
+        let spelt : encode_utf8_all (c ∷ cs) ≡ text = ap encode_utf8_all (sym e) ∙ encodes-chars text utf8 in
+        let d : drop at bytes ≡ encode_utf8_all (c ∷ cs) ++ drop n (drop at bytes) = sym (take-append-drop n (drop at bytes)) ∙ ap (λ x. x ++ drop n (drop at bytes)) (sym spelt) in
+        let read = read_text c cs (drop n (drop at bytes)) bytes at s st small d (ap (list_all is_text) (sym e) ∙ all) (going st o) r in
         let P : ℕ → Type 0 = λ k. ReadTo bytes (at + k) (step Characters (at + k) s) st in
         let Q : State → Type 0 = λ x. ReadTo bytes (at + n) x st in
-        subst Q (sym f) (subst P (sym m) (read_run (drop at bytes) bytes at s st small refl (going st o) (omega (arith, m, some)) r))
+        subst Q (sym f) (subst P (ap length spelt ∙ size) read)

@@ -21,11 +21,6 @@ declared_more attributes more a p old now e f g =
 pub nearest_push : (old now : List Declaration) (d : Declaration) → now ≡ old ++ d ∷ [] → nearest_first now ≡ declaration_in d ∷ nearest_first old
 nearest_push old now d e = ap nearest_first e ∙ stacked_push declaration_in [] old d
 
-pub not_declared : (attributes more : List Attribute) (a : Attribute) (old now : List Attribute) → attributes ≡ a ∷ more → declared_prefix a ≡ None
-    → now ≡ with_declarations more old → now ≡ with_declarations attributes old
-not_declared attributes more a old now e f g =
-    g ∙ sym (ap (λ x. with_declarations x old) e ∙ ap (λ o. option_map_or (λ q. declared_as q a.value ∷ with_declarations more old) o (with_declarations more old)) f)
-
 pub with_on : (attributes scope : List Attribute) → with_declarations attributes scope ≡ with_declarations attributes [] ++ scope
 with_on [] scope = refl
 with_on (a ∷ attributes) scope = go (with_on attributes scope) (declared_prefix a)

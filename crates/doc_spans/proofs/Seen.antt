@@ -1,6 +1,6 @@
 -- The places that rows show while they are built, after one more item.
 use Rattle.std.proofs.Common.{◌≡◌, ℕ, zero, suc, Bool, true, false, cond, ◌&&◌, List, [], ◌∷◌, ◌++◌, Some, refl, sym, ◌∙◌, ap, subst, nat_eq, inl, inr}
-use Rattle.std.proofs.lemmas.Option.{none-some}
+use Rattle.std.proofs.lemmas.Option.{none-some, same_Some}
 use Rattle.std.proofs.lemmas.Bool.Decides.{eqb_tells}
 use Rattle.std.specs.Prelude.{map, slice_get}
 use Rattle.document_model.specs.Tree.{Path}
@@ -8,7 +8,6 @@ use Rattle.document_model.specs.NodeSets.{is_within}
 use Rattle.document_model.specs.Places.{Place}
 use Rattle.doc_spans.specs.Marks.{gone_on}
 use Rattle.doc_spans.specs.View.{seen_at}
-use Rattle.doc_spans.proofs.Each.{some_is}
 use Rattle.doc_spans.specs.View.{Each, Distinct}
 use Rattle.doc_spans.proofs.Marks.{eq_self}
 use Rattle.doc_spans.proofs.Named.{paths}
@@ -93,7 +92,7 @@ pub all_but_one : (f g : Place → Place) (q : Path) (n : ℕ) → ((place : Pla
     → f place ≡ g (record place { end = n }) → map f ps ≡ map g (end_placed k n ps)
 all_but_one f g q n same [] k place e p d one = absurd (none-some place e)
 all_but_one f g q n same (first ∷ ps) zero place e p d one =
-    let is : first ≡ place = some_is first place e in
+    let is : first ≡ place = same_Some first place e in
     let P : Place → Type 0 = λ x. f x ≡ g (record x { end = n }) in
     let here : f first ≡ g (record first { end = n }) = subst P (sym is) one in
     let at : first.path ≡ q = ap (λ x. x.path) is ∙ p in
@@ -105,5 +104,5 @@ all_but_one f g q n same (first ∷ ps) (suc k) place e p d one =
   where
     get_other : {r : Path} (ps : List Place) (k : ℕ) (place : Place) → slice_get ps k ≡ Some place → Each (λ path. path ≡ r → ⊥) (paths ps) → place.path ≡ r → ⊥
     get_other [] k place e d = absurd (none-some place e)
-    get_other (x ∷ ps) zero place e d = λ p. d.0 (ap (λ y. y.path) (some_is x place e) ∙ p)
+    get_other (x ∷ ps) zero place e d = λ p. d.0 (ap (λ y. y.path) (same_Some x place e) ∙ p)
     get_other (x ∷ ps) (suc k) place e d = get_other ps k place e d.1

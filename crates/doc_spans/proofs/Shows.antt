@@ -1,6 +1,6 @@
 -- What a row of a tree shows.
 use Rattle.std.proofs.Common.{◌≡◌, ℕ, zero, suc, ◌+◌, ◌-◌, ◌<◌, ◌≤◌, Bool, true, false, cond, ◌&&◌, List, [], ◌∷◌, ◌++◌, length, take, drop, Option, Some, None, refl, sym, ◌∙◌, ap, subst, subst₂, arith, nat_eq, get_or, ◌⊎◌, inl, inr}
-use Rattle.std.proofs.lemmas.Option.{none-some}
+use Rattle.std.proofs.lemmas.Option.{none-some, same_Some}
 use Rattle.std.proofs.lemmas.Bool.{ne_eqb, eq-eqb, eqb-true}
 use Rattle.std.proofs.lemmas.Bool.Decides.{eqb_tells}
 use Rattle.std.specs.Option.{option_map_or}
@@ -13,7 +13,7 @@ use Rattle.doc_spans.specs.declared.rows.Row.{Row}
 use Rattle.doc_spans.specs.declared.rows.Kind.{Kind}
 use Rattle.doc_spans.specs.View.{none, siblings, under, paths_of, parents_of, place_of_row, placed, places_of_rows, kinds_of_rows, next_from, Distinct, IsTree}
 use Rattle.doc_spans.specs.Shown.{Shown, shown_of, path_at, outer_path, is_child, children_from, children_of, later_children, IsChild, ShowsRow}
-use Rattle.doc_spans.proofs.Each.{some_is, each_get}
+use Rattle.doc_spans.proofs.Each.{each_get}
 use Rattle.doc_spans.proofs.View.{get_past, get_inside, parents_many, paths_many, has_paths, under_get, snoc_some}
 use Rattle.doc_spans.proofs.Builds.{row_paths, places_many, many}
 use Rattle.doc_spans.proofs.Links.{get_row_parent}
@@ -49,8 +49,8 @@ outer_more (k ∷ j ∷ path) i = ap (λ p. k ∷ p) (outer_more (j ∷ path) i)
 distinct_get : (xs : List Path) (a b : ℕ) (x : Path) → Distinct xs → slice_get xs a ≡ Some x → slice_get xs b ≡ Some x → a ≡ b
 distinct_get [] a b x d e f = absurd (none-some x e)
 distinct_get (y ∷ xs) zero zero x d e f = refl
-distinct_get (y ∷ xs) zero (suc b) x d e f = absurd (each_get (λ z. z ≡ y → ⊥) xs b x d.0 f (sym (some_is y x e)))
-distinct_get (y ∷ xs) (suc a) zero x d e f = absurd (each_get (λ z. z ≡ y → ⊥) xs a x d.0 e (sym (some_is y x f)))
+distinct_get (y ∷ xs) zero (suc b) x d e f = absurd (each_get (λ z. z ≡ y → ⊥) xs b x d.0 f (sym (same_Some y x e)))
+distinct_get (y ∷ xs) (suc a) zero x d e f = absurd (each_get (λ z. z ≡ y → ⊥) xs a x d.0 e (sym (same_Some y x f)))
 distinct_get (y ∷ xs) (suc a) (suc b) x d e f = ap suc (distinct_get xs a b x d.1 e f)
 
 abbrev pub IsNumber : List ℕ → ℕ → Type 0
@@ -72,7 +72,7 @@ under_some rows t a h e =
     let f = few_parents rows t in
     let here : (q : ℕ) × (slice_get ps a ≡ Some q) = get_some ps a h in
     snoc_some (under (paths_of ps) here.0) (siblings here.0 (take a ps))
-    (some_is _ _ (sym (has_paths ps t.before (omega (arith, f)) a here.0 here.1) ∙ under_get (paths_of ps) a (omega (arith, m, h))) ∙ e)
+    (same_Some _ _ (sym (has_paths ps t.before (omega (arith, f)) a here.0 here.1) ∙ under_get (paths_of ps) a (omega (arith, m, h))) ∙ e)
   where
     get_some : (ps : List ℕ) (a : ℕ) → a < length ps → (q : ℕ) × (slice_get ps a ≡ Some q)
     get_some [] a h = absurd (omega arith)
@@ -94,7 +94,7 @@ pub child_of : (rows : List Row) → IsTree rows → (n k p : ℕ) (path : Path)
 child_of rows t n k p path number e f =
     let ps = parents_of rows in
     let few = few_parents rows t in
-    let is : path ≡ under (paths_of ps) p ++ siblings p (take k ps) ∷ [] = some_is path _ (sym f ∙ has_paths ps t.before (omega (arith, few)) k p e) in
+    let is : path ≡ under (paths_of ps) p ++ siblings p (take k ps) ∷ [] = same_Some path _ (sym f ∙ has_paths ps t.before (omega (arith, few)) k p e) in
     let parent : IsNumber ps p = elim (t.before k p e) [ inl h ↦ (let i = get_inside ps k p e in inl (omega (arith, h, i))) | inr h ↦ inr h ] in
     ap (is_child (under (paths_of ps) n)) is
     ∙ elim (eqb_tells p n) [
@@ -107,7 +107,7 @@ child_of rows t n k p path number e f =
 
 pub drop_get : {X : Type 0} (xs : List X) (j : ℕ) (x : X) → slice_get xs j ≡ Some x → drop j xs ≡ x ∷ drop (suc j) xs
 drop_get [] j x e = absurd (none-some x e)
-drop_get (y ∷ xs) zero x e = ap (λ z. z ∷ xs) (some_is y x e)
+drop_get (y ∷ xs) zero x e = ap (λ z. z ∷ xs) (same_Some y x e)
 drop_get (y ∷ xs) (suc j) x e = drop_get xs j x e
 
 pub drop_past : {X : Type 0} (xs : List X) (j : ℕ) → length xs ≤ j → drop j xs ≡ []
@@ -138,7 +138,7 @@ skip_to outer places (suc n) j m e h = elim (get_or_past places j) [
 next_before : (p : ℕ) (ps : List ℕ) (k i q : ℕ) → slice_get ps i ≡ Some q → k + i < next_from p k ps → q ≡ p → ⊥
 next_before p [] k i q e h same = absurd (none-some q e)
 next_before p (x ∷ ps) k zero q e h same = (
-    let n : next_from p k (x ∷ ps) ≡ k = ap (λ b. cond b k (next_from p (suc k) ps)) (eq-eqb x p (some_is x q e ∙ same)) in omega (arith, n, h)
+    let n : next_from p k (x ∷ ps) ≡ k = ap (λ b. cond b k (next_from p (suc k) ps)) (eq-eqb x p (same_Some x q e ∙ same)) in omega (arith, n, h)
     )
 next_before p (x ∷ ps) k (suc i) q e h same = elim (eqb_tells x p) [
   | inl t ↦ (let n : next_from p k (x ∷ ps) ≡ k = ap (λ b. cond b k (next_from p (suc k) ps)) t.0 in omega (arith, n, h))
@@ -171,7 +171,7 @@ path_of_place rows i place e = ap (λ l. slice_get l i) (sym (row_paths rows)) �
   where
     mapped : (ps : List Place) (i : ℕ) → slice_get ps i ≡ Some place → slice_get (map (λ x. x.path) ps) i ≡ Some place.path
     mapped [] i e = absurd (none-some place e)
-    mapped (x ∷ ps) zero e = let f : Place → Option Path = λ y. Some y.path in ap f (some_is x place e)
+    mapped (x ∷ ps) zero e = let f : Place → Option Path = λ y. Some y.path in ap f (same_Some x place e)
     mapped (x ∷ ps) (suc i) e = mapped ps i e
 
 pub path_is : (rows : List Row) (k : ℕ) → path_at (shown_of rows) k ≡ under (paths_of (parents_of rows)) k
@@ -180,12 +180,12 @@ path_is rows k = ap (λ l. under l k) (row_paths rows)
 get_placed : (rows : List Row) (ps : List Path) (k : ℕ) (row : Row) (path : Path) → slice_get rows k ≡ Some row → slice_get ps k ≡ Some path → slice_get (placed rows ps) k ≡ Some (place_of_row path row)
 get_placed [] ps k row path e f = absurd (none-some row e)
 get_placed (r ∷ rows) [] k row path e f = absurd (none-some path f)
-get_placed (r ∷ rows) (q ∷ ps) zero row path e f = (λ i. Some (place_of_row (some_is q path f i) (some_is r row e i)))
+get_placed (r ∷ rows) (q ∷ ps) zero row path e f = (λ i. Some (place_of_row (same_Some q path f i) (same_Some r row e i)))
 get_placed (r ∷ rows) (q ∷ ps) (suc k) row path e f = get_placed rows ps k row path e f
 
 get_kind : (rows : List Row) (k : ℕ) (row : Row) → slice_get rows k ≡ Some row → slice_get (kinds_of_rows rows) k ≡ Some row.kind
 get_kind [] k row e = absurd (none-some row e)
-get_kind (r ∷ rows) zero row e = let f : Row → Option Kind = λ x. Some x.kind in ap f (some_is r row e)
+get_kind (r ∷ rows) zero row e = let f : Row → Option Kind = λ x. Some x.kind in ap f (same_Some r row e)
 get_kind (r ∷ rows) (suc k) row e = get_kind rows k row e
 
 child_outer : (outer path : Path) → is_child outer path ≡ true → outer ≡ outer_path path
@@ -272,7 +272,7 @@ shows_row rows t k row e = record {
     whole : under (paths_of (parents_of rows)) k ≡ under (paths_of (parents_of rows)) row.parent ++ siblings row.parent (take k (parents_of rows)) ∷ []
     whole =
         let f = few_parents rows t in
-        some_is _ _ (sym here ∙ has_paths (parents_of rows) t.before (omega (arith, f)) k row.parent (get_row_parent rows k row e))
+        same_Some _ _ (sym here ∙ has_paths (parents_of rows) t.before (omega (arith, f)) k row.parent (get_row_parent rows k row e))
 
     number : IsNumber (parents_of rows) row.parent
     number = elim (t.before k row.parent (get_row_parent rows k row e)) [ inl h ↦ inl (omega (arith, h, inside)) | inr h ↦ inr h ]
@@ -367,7 +367,7 @@ begin_none rows shown t view n h apart =
 
 pub not_next : (rows : List Row) (n k : ℕ) (row : Row) → k ≡ suc n → k < length rows → row ≡ get_or rows k row → (row.parent ≡ n → ⊥) → slice_get (parents_of rows) (suc n) ≡ Some n → ⊥
 not_next rows n k row e inside at apart f =
-    apart (some_is row.parent n (sym (parent_from rows k row inside at) ∙ ap (slice_get (parents_of rows)) e ∙ f))
+    apart (same_Some row.parent n (sym (parent_from rows k row inside at) ∙ ap (slice_get (parents_of rows)) e ∙ f))
 
 pub not_behind : (rows : List Row) (n k : ℕ) → k ≡ suc n → length rows ≤ k → slice_get (parents_of rows) (suc n) ≡ Some n → ⊥
 not_behind rows n k e past f = let i = get_inside (parents_of rows) (suc n) n f in let m = parents_many rows in omega (arith, i, m, e, past)

@@ -1,9 +1,8 @@
 -- A node stays at its path where a tree grows.
 use Rattle.std.proofs.Common.{◌≡◌, ℕ, zero, suc, List, [], ◌∷◌, ◌++◌, Option, Some, refl, sym, ◌∙◌, ap}
-use Rattle.std.proofs.lemmas.Option.{none-some}
+use Rattle.std.proofs.lemmas.Option.{none-some, same_Some}
 use Rattle.std.specs.Prelude.{option_map, option_and_then}
 use Rattle.document_model.specs.Tree.{Node, Nodes, Path, Element, Text, Comment, Instruction, no_nodes, ◌⨾◌, nth, below, descend, node_at, joined, in_nodes_of, in_last, grown}
-use Rattle.document_model.proofs.Put.{some_same}
 
 -- what a node's first item says of it, and of a text nothing
 abbrev pub head : Node → Node
@@ -29,7 +28,7 @@ no_child : (path : Path) (node m : Node) (k : ℕ) → below node ≡ no_nodes �
 no_child path node m k e h = none-some m (sym (ap (λ ns. option_and_then (descend path) (nth k ns)) e) ∙ h)
 
 text_goes_on : (path : Path) (cs ds : List ℕ) (node : Node) → Reached path (Some (Text cs)) node → SameHead path (Some (Text ds)) node
-text_goes_on [] cs ds node e = ap (λ n. Some (head n)) (some_same (Text cs) node e)
+text_goes_on [] cs ds node e = ap (λ n. Some (head n)) (same_Some (Text cs) node e)
 text_goes_on (k ∷ path) cs ds node e = absurd (no_child path (Text cs) node k refl e)
 
 stays_joined : (nodes x : Nodes) (k : ℕ) (path : Path) (node : Node) → Reached path (nth k nodes) node → SameHead path (nth k (joined nodes x)) node
@@ -52,7 +51,7 @@ stays_joined (Text cs ⨾ no_nodes) (Instruction target content ⨾ x) zero path
 -- an element in which nodes stay
 stays_in : (f : Nodes → Nodes) → ((inner : Nodes) (path : Path) → Stays inner (f inner) path) → (path : Path) (node m : Node)
     → Reached path (Some node) m → SameHead path (Some (in_nodes_of f node)) m
-stays_in f same [] (Element name attributes inner) m e = ap (λ n. Some (head n)) (some_same (Element name attributes inner) m e)
+stays_in f same [] (Element name attributes inner) m e = ap (λ n. Some (head n)) (same_Some (Element name attributes inner) m e)
 stays_in f same (k ∷ path) (Element name attributes inner) m e = same inner (k ∷ path) m e
 stays_in f same path (Text cs) m e = kept path (Text cs) m e
 stays_in f same path (Comment cs) m e = kept path (Comment cs) m e

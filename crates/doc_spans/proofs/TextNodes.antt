@@ -1,6 +1,6 @@
 -- The characters of a text node where a tree grows: they stay, or the new ones stand behind them.
 use Rattle.std.proofs.Common.{◌≡◌, ℕ, zero, suc, pred, true, false, ◌&&◌, List, [], ◌∷◌, ◌++◌, Option, Some, None, refl, sym, ◌∙◌, ap, inl, inr}
-use Rattle.std.proofs.lemmas.Option.{none-some}
+use Rattle.std.proofs.lemmas.Option.{none-some, same_Some}
 use Rattle.std.proofs.lemmas.Bool.Decides.{eqb_tells}
 use Rattle.std.specs.Prelude.{option_map, option_and_then}
 use Rattle.std.specs.Option.{option_map_or}
@@ -8,7 +8,6 @@ use Rattle.document_model.specs.Tree.{Node, Nodes, Path, Element, Text, Comment,
 use Rattle.document_model.specs.NodeSets.{is_within}
 use Rattle.document_model.proofs.Grown.{Spine, spine_stays}
 use Rattle.document_model.proofs.Put.{last_nth}
-use Rattle.doc_spans.proofs.Each.{some_is}
 use Rattle.doc_spans.proofs.Spine.{inside, path_grown, inside_grown, at_inside, same_either_way}
 use Rattle.doc_spans.proofs.Steps.{is_text}
 
@@ -55,7 +54,7 @@ in_last_keeps : (d : ℕ) (x : Node) → ((inner : Nodes) → Keeps d x inner) �
     → Reached path (nth k (in_last (in_nodes_of (grown d (x ⨾ no_nodes))) nodes)) cs
 in_last_keeps d x deeper no_nodes k path cs h e = absurd (none-some (Text cs) e)
 in_last_keeps d x deeper (Element name attributes inner ⨾ no_nodes) zero [] cs h e =
-    (let f : Element name attributes inner ≡ Text cs = some_is (Element name attributes inner) (Text cs) e in (cc))
+    (let f : Element name attributes inner ≡ Text cs = same_Some (Element name attributes inner) (Text cs) e in (cc))
 in_last_keeps d x deeper (Element name attributes inner ⨾ no_nodes) zero (j ∷ path) cs h e = deeper inner (j ∷ path) cs (λ f. h (ap (λ p. zero ∷ p) f)) e
 in_last_keeps d x deeper (Text ds ⨾ no_nodes) zero path cs h e = e
 in_last_keeps d x deeper (Comment ds ⨾ no_nodes) zero path cs h e = e
@@ -80,9 +79,9 @@ chars_of (Instruction target content) = []
 nth_grows : (nodes : Nodes) (cs ds : List ℕ) → nth (pred (count nodes)) nodes ≡ Some (Text cs) → nth (pred (count nodes)) (joined nodes (Text ds ⨾ no_nodes)) ≡ Some (Text (cs ++ ds))
 nth_grows no_nodes cs ds e = absurd (none-some (Text cs) e)
 nth_grows (Text bs ⨾ no_nodes) cs ds e = ap (option_map (λ n. Text (chars_of n ++ ds))) e
-nth_grows (Element name attributes inner ⨾ no_nodes) cs ds e = (let f : Element name attributes inner ≡ Text cs = some_is (Element name attributes inner) (Text cs) e in (cc))
-nth_grows (Comment bs ⨾ no_nodes) cs ds e = (let f : Comment bs ≡ Text cs = some_is (Comment bs) (Text cs) e in (cc))
-nth_grows (Instruction target content ⨾ no_nodes) cs ds e = (let f : Instruction target content ≡ Text cs = some_is (Instruction target content) (Text cs) e in (cc))
+nth_grows (Element name attributes inner ⨾ no_nodes) cs ds e = (let f : Element name attributes inner ≡ Text cs = same_Some (Element name attributes inner) (Text cs) e in (cc))
+nth_grows (Comment bs ⨾ no_nodes) cs ds e = (let f : Comment bs ≡ Text cs = same_Some (Comment bs) (Text cs) e in (cc))
+nth_grows (Instruction target content ⨾ no_nodes) cs ds e = (let f : Instruction target content ≡ Text cs = same_Some (Instruction target content) (Text cs) e in (cc))
 nth_grows (Text bs ⨾ next ⨾ nodes) cs ds e = nth_grows (next ⨾ nodes) cs ds e
 nth_grows (Element name attributes inner ⨾ next ⨾ nodes) cs ds e = nth_grows (next ⨾ nodes) cs ds e
 nth_grows (Comment bs ⨾ next ⨾ nodes) cs ds e = nth_grows (next ⨾ nodes) cs ds e
@@ -126,7 +125,7 @@ beside_open (suc d) nodes (k ∷ path) cs s e = elim (eqb_tells k (pred (count n
     below_last : (path : Path) (last : Node) → IsElement last → Spine d (below last)
         → ((p : Path) (cs : List ℕ) → Spine d (below last) → node_at (below last) p ≡ Some (Text cs) → is_within p (last_path d (below last)) ≡ false)
         → descend path last ≡ Some (Text cs) → is_within path (last_path d (below last)) ≡ false
-    below_last [] (Element name attributes inner) is s deeper g = (let f : Element name attributes inner ≡ Text cs = some_is (Element name attributes inner) (Text cs) g in (cc))
+    below_last [] (Element name attributes inner) is s deeper g = (let f : Element name attributes inner ≡ Text cs = same_Some (Element name attributes inner) (Text cs) g in (cc))
     below_last [] (Text ds) is s deeper g = absurd is
     below_last [] (Comment ds) is s deeper g = absurd is
     below_last [] (Instruction target content) is s deeper g = absurd is

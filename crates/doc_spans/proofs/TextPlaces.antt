@@ -1,6 +1,6 @@
 -- The characters of a text node are those of the items between the first and the last byte of its place.
 use Rattle.std.proofs.Common.{◌≡◌, ℕ, zero, suc, pred, ◌+◌, ◌<◌, Bool, true, false, cond, ◌&&◌, List, [], ◌∷◌, ◌++◌, length, drop, Option, Some, refl, sym, ◌∙◌, ap, subst, arith, ◌⊎◌, inl, inr, nat_eq, append_assoc}
-use Rattle.std.proofs.lemmas.Option.{none-some}
+use Rattle.std.proofs.lemmas.Option.{none-some, same_Some}
 use Rattle.std.proofs.lemmas.Bool.Decides.{eqb_tells}
 use Rattle.std.proofs.lemmas.List.{append-nil}
 use Rattle.std.specs.Prelude.{map, option_map}
@@ -14,7 +14,7 @@ use Rattle.document_model.specs.Names.{Name}
 use Rattle.doc_spans.specs.Marks.{size, items_of, gone_on, begun, places_after, Follow, open_path}
 use Rattle.doc_spans.specs.Texts.{text_added_by, StandFrom, AreTexts, text_added, IsTextOf}
 use Rattle.doc_spans.specs.View.{Each}
-use Rattle.doc_spans.proofs.Each.{each_append, each_map, some_is}
+use Rattle.doc_spans.proofs.Each.{each_append, each_map}
 use Rattle.doc_spans.proofs.Marks.{within_self, eq_self}
 use Rattle.doc_spans.proofs.Seen.{within_more}
 use Rattle.doc_spans.proofs.Spine.{path_of_last, none_behind}
@@ -69,9 +69,9 @@ added_more (first ∷ pieces) piece = ap (λ cs. text_added_by first.item ++ cs)
 
 is_text_head : (m : Node) (cs : List ℕ) → Some (Text cs) ≡ Some (head m) → (ds : List ℕ) × (m ≡ Text ds)
 is_text_head (Text ds) cs e = (ds, refl)
-is_text_head (Element name attributes inner) cs e = (let f : Text cs ≡ Element name attributes no_nodes = some_is _ _ e in (cc))
-is_text_head (Comment ds) cs e = (let f : Text cs ≡ Comment ds = some_is _ _ e in (cc))
-is_text_head (Instruction target content) cs e = (let f : Text cs ≡ Instruction target content = some_is _ _ e in (cc))
+is_text_head (Element name attributes inner) cs e = (let f : Text cs ≡ Element name attributes no_nodes = same_Some _ _ e in (cc))
+is_text_head (Comment ds) cs e = (let f : Text cs ≡ Comment ds = same_Some _ _ e in (cc))
+is_text_head (Instruction target content) cs e = (let f : Text cs ≡ Instruction target content = same_Some _ _ e in (cc))
 
 -- a node that is a text later was one before
 was_text : (before : List Item) (item : Item) (path : Path) (m : Node) (cs : List ℕ) → node_at (tree_after before) path ≡ Some m
@@ -83,7 +83,7 @@ was_text before item path m cs old new =
 
 -- two texts
 text_is : {a b : List ℕ} → Some (Text a) ≡ Some (Text b) → a ≡ b
-text_is e = ap characters_in (some_is _ _ e)
+text_is e = ap characters_in (same_Some _ _ e)
   where
     characters_in : Node → List ℕ
     characters_in (Text cs) = cs
@@ -131,7 +131,7 @@ quiet_nothing before item h none at = record {
 
 text_ends : (nodes : Nodes) (cs : List ℕ) → nth (pred (count nodes)) nodes ≡ Some (Text cs) → ends_in_text nodes ≡ true
 text_ends no_nodes cs e = absurd (none-some (Text cs) e)
-text_ends (node ⨾ no_nodes) cs e = ap is_text (some_is node (Text cs) e)
+text_ends (node ⨾ no_nodes) cs e = ap is_text (same_Some node (Text cs) e)
 text_ends (node ⨾ next ⨾ nodes) cs e = text_ends (next ⨾ nodes) cs e
 
 quiet_new : (before : List Item) (item : Item) (node : Node) → Follow before → added_at (depth before) item ≡ node ⨾ no_nodes
@@ -291,7 +291,7 @@ no_new_text bytes pieces piece h begins other cs e =
     let named = named_begun (items_of pieces) piece.item h begins in
     let at : path_of (items_of pieces) piece.item ≡ open_path (items_of pieces) ++ child_count (items_of pieces) ∷ [] = path_begun (items_of pieces) piece.item h begins in
     let same : Some named.0 ≡ Some (Text cs) = sym named.1 ∙ ap (node_at (tree_after (items_of (piece ∷ pieces)))) (sym at) ∙ e in
-    absurd (other (head_is named.0 cs (head_of piece.item) (some_is named.0 (Text cs) same) named.2))
+    absurd (other (head_is named.0 cs (head_of piece.item) (same_Some named.0 (Text cs) same) named.2))
 
 new_turn : (bytes : List ℕ) (pieces : List Piece) (piece : Piece) (node : Node) → Follow (items_of pieces) → added_at (depth (items_of pieces)) piece.item ≡ node ⨾ no_nodes
     → is_text node ≡ false → begins_node (items_of pieces) piece.item ≡ true → (head_of piece.item ≡ Some (Text []) → ⊥)
@@ -407,7 +407,7 @@ section_turn bytes pieces text n h read was = go (is_in_text (items_of pieces)) 
         quiet_turn bytes pieces (one text (cdata [])) h (quiet_nothing (items_of pieces) (cdata []) h none i.path) i.begins (λ inner. i.text n.0) was
 
 no_element : {name : Name} {attributes : List Attribute} {inner : Nodes} → Some (Element name attributes inner) ≡ Some (Text []) → ⊥
-no_element {name} {attributes} {inner} e = (let f : Element name attributes inner ≡ Text [] = some_is _ _ e in (cc))
+no_element {name} {attributes} {inner} e = (let f : Element name attributes inner ≡ Text [] = same_Some _ _ e in (cc))
 
 turn : (bytes : List ℕ) (pieces : List Piece) (text : List ℕ) (item : Item) → Follow (items_of ((one text item) ∷ pieces)) → Follow (items_of pieces)
     → piece_at (drop (size pieces) bytes) ≡ Some (one text item, drop (size (one text item ∷ pieces)) bytes) → Turned bytes pieces → Turned bytes (one text item ∷ pieces)
@@ -430,10 +430,10 @@ turn bytes pieces text (cdata []) n h read was = section_turn bytes pieces text 
 turn bytes pieces text (cdata (c ∷ cs)) n h read was =
     text_turn bytes pieces text (cdata (c ∷ cs)) n h (text_section (items_of pieces) c cs) (tt, tt) refl (λ flat. let f = n.0 in absurd (omega (arith, f, flat))) read was
 turn bytes pieces text (comment cs) n h read was =
-    new_turn bytes pieces (one text (comment cs)) (Comment cs) h (added_comment (depth (items_of pieces)) cs) refl refl (λ e. (let f : Comment cs ≡ Text [] = some_is _ _ e in (cc))) refl was
+    new_turn bytes pieces (one text (comment cs)) (Comment cs) h (added_comment (depth (items_of pieces)) cs) refl refl (λ e. (let f : Comment cs ≡ Text [] = same_Some _ _ e in (cc))) refl was
 turn bytes pieces text (instruction target content) n h read was =
     new_turn bytes pieces (one text (instruction target content)) (Instruction target content) h (added_instruction (depth (items_of pieces)) target content) refl refl
-    (λ e. (let f : Instruction target content ≡ Text [] = some_is _ _ e in (cc))) refl was
+    (λ e. (let f : Instruction target content ≡ Text [] = same_Some _ _ e in (cc))) refl was
 
 pub texts_turned : (bytes : List ℕ) (pieces : List Piece) (piece : Piece) → Follow (items_of (piece ∷ pieces)) → Follow (items_of pieces)
     → piece_at (drop (size pieces) bytes) ≡ Some (piece, drop (size (piece ∷ pieces)) bytes) → Turned bytes pieces → Turned bytes (piece ∷ pieces)

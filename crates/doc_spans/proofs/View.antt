@@ -1,6 +1,6 @@
 -- What rows show, where one is added or changed.
 use Rattle.std.proofs.Common.{◌≡◌, ℕ, zero, suc, ◌+◌, ◌<◌, ◌≤◌, Bool, true, false, cond, List, [], ◌∷◌, ◌++◌, length, take, drop, Option, Some, None, refl, sym, ◌∙◌, ap, subst, arith, append_assoc, length-append, ◌⊎◌, inl, inr}
-use Rattle.std.proofs.lemmas.Option.{none-some}
+use Rattle.std.proofs.lemmas.Option.{none-some, same_Some}
 use Rattle.std.proofs.lemmas.Bool.{ne_eqb, eq-eqb}
 use Rattle.std.proofs.lemmas.List.{append-nil}
 use Rattle.std.specs.Prelude.{map, slice_get, nat_eq}
@@ -11,7 +11,7 @@ use Rattle.doc_spans.specs.declared.rows.Row.{Row}
 use Rattle.doc_spans.specs.Building.{with_next, with_end, parent_of}
 use Rattle.doc_spans.specs.View.{none, AreBefore}
 use Rattle.doc_spans.specs.View.{siblings, under, paths_from, paths_of, parents_of, place_of_row, placed}
-use Rattle.doc_spans.proofs.Each.{some_is, map_join}
+use Rattle.doc_spans.proofs.Each.{map_join}
 
 -- Lists that grow at their end.
 
@@ -44,7 +44,7 @@ get_inside (y ∷ xs) (suc k) x e = let h = get_inside xs k x e in omega arith
 
 -- where the k-th of a longer list is
 pub get_either : {X : Type 0} (xs : List X) (y : X) (k : ℕ) (x : X) → slice_get (xs ++ y ∷ []) k ≡ Some x → ((k < length xs) × (slice_get xs k ≡ Some x)) ⊎ ((k ≡ length xs) × (y ≡ x))
-get_either [] y zero x e = inr (refl, some_is y x e)
+get_either [] y zero x e = inr (refl, same_Some y x e)
 get_either [] y (suc k) x e = absurd (none-some x e)
 get_either (z ∷ xs) y zero x e = inl (omega arith, e)
 get_either (z ∷ xs) y (suc k) x e = elim (get_either xs y k x e) [
@@ -227,7 +227,7 @@ drop_one_more (x ∷ xs) y = drop_one_more xs y
 pub siblings_split : (ps : List ℕ) (k p : ℕ) → slice_get ps k ≡ Some p → siblings p ps ≡ suc (siblings p (take k ps) + siblings p (drop (suc k) ps))
 siblings_split [] k p e = absurd (none-some p e)
 siblings_split (q ∷ ps) zero p e =
-    ap (λ b. cond b (suc (siblings p ps)) (siblings p ps)) (eq-eqb q p (some_is q p e)) ∙ (let a : suc (siblings p ps) ≡ suc (0 + siblings p ps) = omega arith in a)
+    ap (λ b. cond b (suc (siblings p ps)) (siblings p ps)) (eq-eqb q p (same_Some q p e)) ∙ (let a : suc (siblings p ps) ≡ suc (0 + siblings p ps) = omega arith in a)
 siblings_split (q ∷ ps) (suc k) p e = counted (nat_eq q p) (siblings_split ps k p e)
   where
     counted : (b : Bool) → siblings p ps ≡ suc (siblings p (take k ps) + siblings p (drop (suc k) ps))
@@ -269,10 +269,10 @@ snoc_some a x e = let n = ap length e in omega (arith, n, length-append a (x ∷
 
 pub get_of_paths : (ps : List Place) (k : ℕ) (path : Path) → slice_get (map (λ place. place.path) ps) k ≡ Some path → (place : Place) × (slice_get ps k ≡ Some place) × (place.path ≡ path)
 get_of_paths [] k path e = absurd (none-some path e)
-get_of_paths (place ∷ ps) zero path e = (place, refl, some_is place.path path e)
+get_of_paths (place ∷ ps) zero path e = (place, refl, same_Some place.path path e)
 get_of_paths (place ∷ ps) (suc k) path e = get_of_paths ps k path e
 
 pub get_end : (k n : ℕ) (ps : List Place) (place : Place) → slice_get ps k ≡ Some place → slice_get (end_placed k n ps) k ≡ Some (record place { end = n })
 get_end k n [] place e = absurd (none-some place e)
-get_end zero n (x ∷ ps) place e = let f : Place → Option Place = λ y. Some (record y { end = n }) in ap f (some_is x place e)
+get_end zero n (x ∷ ps) place e = let f : Place → Option Place = λ y. Some (record y { end = n }) in ap f (same_Some x place e)
 get_end (suc k) n (x ∷ ps) place e = get_end k n ps place e

@@ -1,6 +1,6 @@
 -- The number of nodes and attributes of the items is that of the tree.
 use Rattle.std.proofs.Common.{◌≡◌, ℕ, zero, suc, ◌+◌, ◌<◌, Bool, true, false, cond, ◌&&◌, ◌||◌, List, [], ◌∷◌, length, Some, refl, sym, ◌∙◌, ap, subst, arith, nat_eq}
-use Rattle.std.proofs.lemmas.Option.{none-some}
+use Rattle.std.proofs.lemmas.Option.{none-some, same_Some}
 use Rattle.std.proofs.Math.Dec.{eqb-suc-zero}
 use Rattle.std.specs.Option.{option_map_or}
 use Rattle.document_model.specs.Items.{Item, declaration, start_tag, empty_tag, end_tag, character, reference, cdata, comment, instruction}
@@ -8,7 +8,6 @@ use Rattle.document_model.specs.Tree.{Node, Nodes, Element, Text, Comment, Instr
 use Rattle.document_model.specs.Documents.{is_in_text, text_nodes, new_nodes, nodes_of}
 use Rattle.document_model.proofs.Grown.{Spine, joined_none, added_start, added_end}
 use Rattle.doc_spans.specs.Marks.{Fits, Follow}
-use Rattle.doc_spans.proofs.Each.{some_is}
 use Rattle.doc_spans.proofs.Spine.{inside}
 use Rattle.doc_spans.proofs.Steps.{children, ends_in_text, is_text, spine, never, text_is_last, deep, added_whole, added_comment, added_instruction}
 use Rattle.doc_spans.proofs.Turn.{added_nothing, added_flat}
@@ -61,7 +60,7 @@ in_last_weighs : (f : Nodes → Nodes) (nodes : Nodes) (node : Node) → last_of
 in_last_weighs f no_nodes node e is = absurd (none-some node e)
 in_last_weighs f (first ⨾ no_nodes) node e is =
     let P : Node → Type 0 = λ n. weight (in_nodes_of f n) + 0 + weigh (below node) ≡ weight n + 0 + weigh (f (below node)) in
-    subst P (sym (some_is first node e)) (let n = weight_changed f node is in omega arith)
+    subst P (sym (same_Some first node e)) (let n = weight_changed f node is in omega arith)
 in_last_weighs f (first ⨾ next ⨾ nodes) node e is = let n = in_last_weighs f (next ⨾ nodes) node e is in omega arith
 
 grown_weighs : (d : ℕ) (x nodes : Nodes) → Spine d nodes → weigh (grown d x nodes) + weigh (inside d nodes) ≡ weigh nodes + weigh (joined (inside d nodes) x)

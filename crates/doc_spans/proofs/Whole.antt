@@ -1,6 +1,6 @@
 -- The rows of a whole document's items are its tree.
 use Rattle.std.proofs.Common.{◌≡◌, ℕ, zero, suc, Bool, true, false, cond, ◌&&◌, List, [], ◌∷◌, ◌++◌, length, Some, None, refl, sym, ◌∙◌, ap, subst, arith, ◌-◌}
-use Rattle.std.proofs.lemmas.Option.{none-some}
+use Rattle.std.proofs.lemmas.Option.{none-some, same_Some}
 use Rattle.std.specs.Prelude.{map, slice_get, option_map, IsPermutation}
 use Rattle.document_model.specs.Characters.{is_empty}
 use Rattle.document_model.specs.Items.{Item, Piece, declaration, start_tag, empty_tag, end_tag, character, reference, cdata, comment, instruction}
@@ -15,7 +15,7 @@ use Rattle.doc_spans.specs.Marks.{size, items_of, begun, places_after, kinds_aft
 use Rattle.doc_spans.specs.Building.{State}
 use Rattle.doc_spans.specs.View.{Each, places_of_rows, seen_at, IsTree, Distinct}
 use Rattle.doc_spans.specs.Shown.{shown_of, kind_of, IsShownOf}
-use Rattle.doc_spans.proofs.Each.{some_is, each_get, map_map, map_join}
+use Rattle.doc_spans.proofs.Each.{each_get, map_map, map_join}
 use Rattle.doc_spans.proofs.Marks.{onto}
 use Rattle.doc_spans.proofs.Named.{paths, IsNode, paths_name, Mark, IsMark, marks_after, marks_name, marks_places, mark_gone_on, places, head_of}
 use Rattle.doc_spans.proofs.Stays.{head}
@@ -84,18 +84,18 @@ kind_of_head (tree.Instruction target content) = refl
 kind_of_begun : (item : Item) (node : Node) → Some node ≡ head_of item → kind_of node ≡ kind_of_item item
 kind_of_begun declaration node e = absurd (none-some node (sym e))
 kind_of_begun (end_tag name) node e = absurd (none-some node (sym e))
-kind_of_begun (start_tag name attributes) node e = ap kind_of (some_is node _ e)
-kind_of_begun (empty_tag name attributes) node e = ap kind_of (some_is node _ e)
-kind_of_begun (character c) node e = ap kind_of (some_is node _ e)
-kind_of_begun (reference c) node e = ap kind_of (some_is node _ e)
-kind_of_begun (cdata cs) node e = ap kind_of (some_is node _ e)
-kind_of_begun (comment cs) node e = ap kind_of (some_is node _ e)
-kind_of_begun (instruction target content) node e = ap kind_of (some_is node _ e)
+kind_of_begun (start_tag name attributes) node e = ap kind_of (same_Some node _ e)
+kind_of_begun (empty_tag name attributes) node e = ap kind_of (same_Some node _ e)
+kind_of_begun (character c) node e = ap kind_of (same_Some node _ e)
+kind_of_begun (reference c) node e = ap kind_of (same_Some node _ e)
+kind_of_begun (cdata cs) node e = ap kind_of (same_Some node _ e)
+kind_of_begun (comment cs) node e = ap kind_of (same_Some node _ e)
+kind_of_begun (instruction target content) node e = ap kind_of (same_Some node _ e)
 
 get_marks : (marks : List Mark) (k : ℕ) (place : Place) (kind : Kind) → slice_get (places marks) k ≡ Some place → slice_get (map (λ mark. kind_of_item mark.1) marks) k ≡ Some kind
     → (mark : Mark) × (slice_get marks k ≡ Some mark) × (mark.0 ≡ place) × (kind_of_item mark.1 ≡ kind)
 get_marks [] k place kind e f = absurd (none-some place e)
-get_marks (mark ∷ marks) zero place kind e f = (mark, refl, some_is mark.0 place e, some_is (kind_of_item mark.1) kind f)
+get_marks (mark ∷ marks) zero place kind e f = (mark, refl, same_Some mark.0 place e, same_Some (kind_of_item mark.1) kind f)
 get_marks (mark ∷ marks) (suc k) place kind e f = get_marks marks k place kind e f
 
 -- The rows of a whole document.

@@ -1,11 +1,10 @@
 -- What the items before a place say of it: which items may follow there, within the limits.
 use Rattle.std.specs.Prelude.{ℕ, ◌+◌, Bool, true, false, not, ◌&&◌, ◌||◌, ◌==◌, nat_eq, nat_le, if◌then◌else◌, List, [], ◌∷◌, length, drop, Option, Some, None, option_and_then, codes}
 use Rattle.std.specs.List.{starts_with}
-use Rattle.document_model.specs.Characters.{is_white, is_empty, span}
+use Rattle.document_model.specs.Characters.{is_white, is_empty}
 use Rattle.document_model.specs.Names.{Name}
 use Rattle.document_model.specs.Items.{Attribute, Item, declaration, start_tag, empty_tag, end_tag, character, reference, cdata, comment, instruction, Piece, piece_at, when}
 use Rattle.document_model.specs.Scopes.{Tag, is_sound}
-use Rattle.xml_items.specs.Runs.{is_ordinary}
 use Rattle.document_model.specs.Documents.{open_elements, has_element, is_character, after_two_brackets, byte_order_mark, is_beginning, closes, limits, is_in_text, nodes_of, Fault, BadItem, Doctype, Depth, TooMany}
 
 -- all that has to be known of the items before a place
@@ -139,7 +138,3 @@ after item s = record {
 -- in an element, behind a character that no rule looks back to
 abbrev pub goes_on : Standing → Bool
 goes_on s = s.in_text && (not (is_empty s.outer) && not (s.bracket || (s.brackets || (s.first || s.front))))
-
--- how many characters at the front of bytes stand for themselves and do nothing but go on with it
-abbrev pub run_here : Standing → List ℕ → ℕ
-run_here s bytes = if goes_on s then length (span is_ordinary bytes).0 else 0

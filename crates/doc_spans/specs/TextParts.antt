@@ -1,7 +1,7 @@
 -- The parts of a text in the code.
-use Rattle.std.specs.Prelude.{ℕ, List, [], ◌∷◌, length}
+use Rattle.std.specs.Prelude.{◌≡◌, ℕ, false, List, [], ◌∷◌, length}
 use Rattle.std.specs.Str.{chars}
-use Rattle.document_model.specs.Characters.{with_line_ends}
+use Rattle.document_model.specs.Characters.{with_line_ends, is_empty}
 use Rattle.std.specs.Char.{IsScalar}
 use Rattle.doc_spans.specs.declared.parts.Part.{Part}
 use Rattle.doc_spans.specs.declared.parts.Part.TheVariants.{Literal, Decoded, Section}
@@ -13,6 +13,12 @@ abbrev pub part_in : Part → List ℕ
 part_in (Literal text) = chars text.now
 part_in (Decoded c) = c ∷ []
 part_in (Section text) = with_line_ends (chars text.now)
+
+-- characters that stand so are one at least
+abbrev pub IsSomePart : Part → Type 0
+IsSomePart (Literal text) = is_empty (chars text.now) ≡ false
+IsSomePart (Decoded c) = Unit {0}
+IsSomePart (Section text) = Unit {0}
 
 -- how many of its bytes are still to be read
 abbrev pub part_size : Part → ℕ

@@ -8,7 +8,7 @@ use crate::texts::Pieces;
 use xml_items::tags::{MOST_ATTRIBUTES, pair_at};
 
 /// An attribute or a namespace declaration.
-#[derive(Clone, Copy, Debug)]
+#[derive(Clone, Copy)]
 pub struct Attr<'a> {
     /// Its name, as it is written.
     pub name: &'a str,
@@ -18,7 +18,7 @@ pub struct Attr<'a> {
 }
 
 // The attributes that are left, at most so many.
-#[derive(Clone, Copy, Debug)]
+#[derive(Clone, Copy)]
 pub struct Attrs<'a> {
     rest: &'a str,
     left: usize,

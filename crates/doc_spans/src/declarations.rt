@@ -10,7 +10,7 @@ use crate::scopes::bound_space;
 use xml_items::texts::same;
 
 /// A prefix, empty for the default, and its value, as it stands between the quotes: Namespaces in XML 1.0, "Declaring Namespaces".
-#[derive(Clone, Copy, Debug)]
+#[derive(Clone, Copy)]
 pub struct Declaration<'a> {
     /// The prefix.
     pub prefix: &'a str,

@@ -27,7 +27,7 @@ use xml_items::scanner::{known_item, next_item};
 pub struct NodeId(pub(crate) u32);
 
 /// Places in the bytes of a document: of the first byte, and of the byte behind the last.
-#[derive(Clone, Copy, PartialEq, Eq, Debug)]
+#[derive(Clone, Copy)]
 pub struct Span {
     /// The place of the first byte.
     pub start: u32,

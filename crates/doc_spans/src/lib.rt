@@ -17,6 +17,7 @@ pub mod scopes;
 mod soundness;
 pub mod stacks;
 mod standing;
+mod tabled;
 mod text_items;
 mod texts;
 mod trees;
@@ -29,6 +30,3 @@ pub use open_tags::OpenTag;
 pub use rows::Kind;
 pub use texts::{Piece, Pieces};
 pub use trees::Tree;
-
-#[cfg(test)]
-mod tests;

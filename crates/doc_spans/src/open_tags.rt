@@ -3,7 +3,7 @@
 ghost use Rattle.xml_items.specs.Found.{IsNameText, AreAttributesText};
 
 /// A start tag or an empty tag, as it is written: `attribute_walk` of `xml_items` reads its attributes again and meets no fault.
-#[derive(Clone, Copy, Debug)]
+#[derive(Clone, Copy)]
 pub struct OpenTag<'a> {
     /// Its name.
     pub name: &'a str,

@@ -8,7 +8,7 @@ ghost use Rattle.doc_spans.specs.Scoped.{with_declarations};
 use crate::open_tags::OpenTag;
 
 /// An element's start tag, and how many declarations it has.
-#[derive(Clone, Copy, Debug)]
+#[derive(Clone, Copy)]
 pub struct Opened<'a> {
     /// The tag.
     pub tag: OpenTag<'a>,

@@ -2,13 +2,13 @@
 
 ghost use Rattle.std.specs.Prelude.{◌≡◌};
 ghost use Rattle.doc_spans.specs.Texts.{IsPartOfText, text_added_by};
-ghost use Rattle.doc_spans.specs.TextParts.{IsScalarFound, part_in, part_size, section_size};
+ghost use Rattle.doc_spans.specs.TextParts.{IsScalarFound, IsSomePart, part_in, part_size, section_size};
 ghost use Rattle.xml_items.specs.Items.{item_in};
 
 use xml_items::items::Found;
 
 // A part of a text: characters that stand so in the source, a character that doesn't, or what a CDATA section holds.
-#[derive(Clone, Copy, Debug)]
+#[derive(Clone, Copy)]
 pub(crate) enum Part<'a> {
     Literal(&'a str),
     Decoded(char),
@@ -20,6 +20,7 @@ pub(crate) fn part_of<'a>(found: Found<'a>) -> Part<'a>
     requires text { IsPartOfText (item_in found) }
     requires scalar { IsScalarFound found }
     ensures size { part_size result ≡ section_size found.entry }
+    ensures some { IsSomePart result }
     ensures added { part_in result ≡ text_added_by (item_in found.entry) }
 {
     match found {

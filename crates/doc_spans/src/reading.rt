@@ -1,10 +1,10 @@
 //! Reading a document: its legal items, one after another, and the rows that they make.
 
-ghost use Rattle.std.specs.Prelude.{◌≡◌, ◌<◌, ◌≤◌, ◌+◌, drop, length, Some, IfSome, IfOk, IfErr, OnOk, option_map, not, ◌&&◌, if◌then◌else◌};
+ghost use Rattle.std.specs.Prelude.{◌≡◌, ◌<◌, ◌≤◌, ◌+◌, true, take, drop, length, Some, IfSome, IfOk, IfErr, OnOk, option_map, not, ◌&&◌, if◌then◌else◌};
 ghost use Rattle.document_model.specs.Documents.{limits, Depth, TooMany};
 ghost use Rattle.xml_items.specs.Items.{item_in, IsRead};
 ghost use Rattle.xml_items.specs.Scanned.{piece_in};
-ghost use Rattle.doc_spans.specs.Standing.{is_deep, is_one_too_many, legal_here, fault_with, legal_within_here, run_here, after};
+ghost use Rattle.doc_spans.specs.Standing.{is_deep, is_one_too_many, legal_here, fault_with, legal_within_here, goes_on, after};
 ghost use Rattle.doc_spans.specs.Faults.{fault_in, MissesItem, IsFirstFault};
 ghost use Rattle.doc_spans.specs.Kept.{standing_in};
 ghost use Rattle.doc_spans.specs.Marks.{shape_of};
@@ -13,7 +13,9 @@ ghost use Rattle.doc_spans.specs.Shown.{shown_of, IsShownOf};
 ghost use Rattle.doc_spans.specs.View.{IsTree};
 ghost use Rattle.document_model.specs.Characters.{with_line_ends};
 ghost use Rattle.document_model.specs.Items.{cdata};
-ghost use Rattle.std.specs.Str.{chars};
+ghost use Rattle.std.specs.Str.{chars, IsUtf8};
+ghost use Rattle.std.specs.List.{list_all};
+ghost use Rattle.xml_items.specs.Runs.{is_text};
 ghost use Rattle.xa_io.specs.Causes.{counted};
 
 use crate::building::Builder;
@@ -24,7 +26,7 @@ use crate::trees::Tree;
 use std::alloc::Global;
 use xa_io::Steps;
 use xml_items::items::Found;
-use xml_items::runs::ordinary_run;
+use xml_items::runs::text_run;
 use xml_items::scanner::{Scanned, next_item};
 use xml_items::texts::is_empty;
 
@@ -159,14 +161,16 @@ fn section_shape(text: &str) -> Shape
     }
 }
 
-// How many characters at a place stand for themselves and do nothing but go on with a text.
+// How many bytes at a place are characters that stand for themselves and do nothing but go on with a text.
 fn run_there<'a>(bytes: &[u8], at: usize, standing: &Standing<'a>) -> usize
     requires { at ≤ length bytes.now }
-    ensures run { result ≡ run_here (standing_in standing.now) (drop at bytes.now) }
     ensures bound { at + result ≤ length bytes.now }
+    ensures going { 0 < result → goes_on (standing_in standing.now) ≡ true }
+    ensures utf8 { IsUtf8 (take result (drop at bytes.now)) }
+    ensures text { list_all is_text (chars (take result (drop at bytes.now))) ≡ true }
 {
     if standing.goes_on() {
-        ordinary_run(bytes, at)
+        text_run(bytes, at)
     } else {
         0
     }

@@ -1,8 +1,8 @@
 //! Texts whose characters are read in one of three ways.
 
-ghost use Rattle.std.specs.Prelude.{◌≡◌, ◌++◌, ◌∷◌, ◌<◌, ◌≤◌, [], length, MatchOption, IfSome, IsTrue};
+ghost use Rattle.std.specs.Prelude.{◌≡◌, ◌++◌, ◌∷◌, ◌<◌, ◌≤◌, [], false, length, MatchOption, IfSome, IsTrue};
 ghost use Rattle.std.specs.Str.{chars, IsUtf8};
-ghost use Rattle.document_model.specs.Characters.{span, with_line_ends};
+ghost use Rattle.document_model.specs.Characters.{span, with_line_ends, is_empty};
 ghost use Rattle.doc_spans.specs.ReadAs.{is_literal, is_readable};
 
 use crate::texts::Piece;
@@ -10,7 +10,7 @@ use xml_items::classes::{Class, first, front};
 use xml_items::value_texts::first_of_value;
 
 // How the characters of a text are read.
-#[derive(Clone, Copy, Debug, PartialEq, Eq)]
+#[derive(Clone, Copy)]
 pub(crate) enum Reading {
     // As they stand.
     AsWritten,
@@ -21,7 +21,7 @@ pub(crate) enum Reading {
 }
 
 // A text that is read.
-#[derive(Clone, Copy, Debug)]
+#[derive(Clone, Copy)]
 pub(crate) struct Front<'a> {
     pub(crate) text: &'a str,
     pub(crate) reading: Reading,
@@ -35,6 +35,7 @@ impl<'a> Front<'a> {
     pub(crate) fn first(self) -> Option<(Piece<'a>, Front<'a>)>
         ensures first { MatchOption result (front_left self.entry ≡ []) (λ r. front_left self.entry ≡ characters_in r.0 ++ front_left r.1) }
         ensures shorter { IfSome result (λ r. length r.1.text.now < length self.entry.text.now) }
+        ensures some { IfSome result (λ r. is_empty (characters_in r.0) ≡ false) }
     {
         let (run, behind) = literal_front(self.text, self.reading);
         let reading = self.reading;
@@ -70,6 +71,7 @@ impl<'a> Front<'a> {
 fn literal_front<'a>(text: &'a str, reading: Reading) -> (&'a str, &'a str)
     ensures split { span (is_literal reading) (chars text.now) ≡ (chars result.0.now, chars result.1.now) }
     ensures joined { result.0.now ++ result.1.now ≡ text.now }
+    ensures front_utf8 { IsUtf8 result.0.now }
     ensures behind_utf8 { IsUtf8 result.1.now }
 {
     match reading {

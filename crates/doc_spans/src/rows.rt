@@ -3,7 +3,7 @@
 ghost use Rattle.std.specs.Prelude.{◌≡◌};
 ghost use Rattle.doc_spans.specs.Building.{with_next, with_end, parent_of};
 
-#[derive(Clone, Copy, PartialEq, Eq, Debug)]
+#[derive(Clone, Copy, PartialEq, Eq)]
 pub enum Kind {
     Element,
     Text,
@@ -27,7 +27,7 @@ pub(crate) const NONE: u32 = 4294967295;
 const _: () = prove!(std::mem::size_of::<Row>() == 24);
 
 // What an item does to the tree.
-#[derive(Clone, Copy, PartialEq, Eq, Debug)]
+#[derive(Clone, Copy, PartialEq, Eq)]
 pub enum Shape {
     Nothing,
     Start,

@@ -49,7 +49,7 @@ pub fn declared_prefix<'a>(a: Attribute<'a>) -> Option<&'a str>
 }
 
 // Whether an attribute declares a prefix.
-fn declares<'a>(prefix: &str, a: Attribute<'a>) -> bool
+pub(crate) fn declares<'a>(prefix: &str, a: Attribute<'a>) -> bool
     ensures { result ≡ declares (chars prefix.now) (attribute_in a.entry) }
 {
     match declared_prefix(a) {

@@ -12,6 +12,8 @@ use crate::declarations::Declared;
 use crate::open_tags::OpenTag;
 use crate::scopes::{bound_space, declared_value, is_sound_declaration};
 use crate::stacks::Scopes;
+use crate::tabled::{Known, gather_attributes};
+use std::alloc::AllocError;
 use xml_items::attribute_walk::{Attribute, Attributes};
 use xml_items::names::name_parts;
 use xml_items::texts::{is, is_empty, same};
@@ -41,7 +43,7 @@ impl<'s, 'a> Scope<'s, 'a> {
     }
 
     // The same by the declarations of the elements around the tag.
-    fn declared_outside(&self, prefix: &str) -> &'a str
+    pub(crate) fn declared_outside(&self, prefix: &str) -> &'a str
         ensures value { value_in (chars result.now) ≡ declared_space (chars prefix.now) (tags_around self.now.outer.now) }
         ensures read { IsValueText result.now }
     {
@@ -144,10 +146,28 @@ impl<'s, 'a> Scope<'s, 'a> {
         !is(prefix, "xmlns") && self.is_declared(prefix)
     }
 
-    // Whether the tag's names and declarations are sound: Namespaces in XML 1.0.
-    pub(crate) fn is_sound(&self) -> bool
+    // The same as `is_sound`, by walks over the tag's text.
+    fn is_sound_by_text(&self) -> bool
         ensures { result ≡ is_sound (tags_around self.now.outer.now) (tag_in self.now.tag) }
     {
         self.has_sound_name() && self.has_sound_attributes(Attributes::of(self.tag.attributes))
+    }
+
+    // Whether the tag's names and declarations are sound: Namespaces in XML 1.0. It reads the attributes into a table, as far as there is
+    // memory for one.
+    pub(crate) fn is_sound(&self) -> bool
+        ensures { result ≡ is_sound (tags_around self.now.outer.now) (tag_in self.now.tag) }
+    {
+        let attributes = Attributes::of(self.tag.attributes);
+        match gather_attributes(*self.outer.declarations.allocator(), attributes) {
+            Ok(table) => {
+                let known = Known {
+                    scope: *self,
+                    table: table.as_slice(),
+                };
+                known.is_sound()
+            }
+            Err(AllocError) => self.is_sound_by_text(),
+        }
     }
 }

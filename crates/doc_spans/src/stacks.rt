@@ -19,7 +19,7 @@ use std::alloc::{AllocError, Global};
 use xml_items::attribute_walk::Attributes;
 
 /// The elements from the outermost in, and what they declare: a nearer declaration stands behind a further one.
-#[derive(Debug, Drop)]
+#[derive(Drop)]
 pub struct Scopes<'a> {
     /// The elements.
     pub tags: Vec<Opened<'a>>,
@@ -48,6 +48,7 @@ impl<'a> Scopes<'a> {
         ensures outside { IfOk result (λ n. take n self.new.declarations.items ≡ self.old.declarations.items) }
         ensures bound { IfOk result (λ n. n ≤ vec_len self.new.declarations) }
         ensures inner { OnOk result ((last : Opened) × (self.new.tags.items ≡ self.old.tags.items ++ last ∷ [])) }
+        ensures err { OnErr result (tags_around self.new ≡ tags_around self.old) }
     {
         let outside = self.declarations.len();
         match push_opened(&mut self.tags, &mut self.declarations, tag) {

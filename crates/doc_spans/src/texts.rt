@@ -1,8 +1,8 @@
 //! Decoded characters, in pieces of the source.
 
-ghost use Rattle.std.specs.Prelude.{◌≡◌, ◌++◌, ◌<◌, ◌≤◌, ℕ, List, [], length, MatchOption, IfSome};
+ghost use Rattle.std.specs.Prelude.{◌≡◌, ◌++◌, ◌<◌, ◌≤◌, ℕ, List, [], false, length, MatchOption, IfSome};
 ghost use Rattle.std.specs.Str.{chars, IsUtf8};
-ghost use Rattle.document_model.specs.Characters.{with_line_ends, ◌is◌};
+ghost use Rattle.document_model.specs.Characters.{with_line_ends, is_empty, ◌is◌};
 ghost use Rattle.xml_items.specs.Found.{value_in, IsValueText};
 ghost use Rattle.doc_spans.specs.Pieces.{characters_left, characters_in, front_left, items_left, items_size, size_left};
 ghost use Rattle.doc_spans.specs.Texts.{HoldText, text_between};
@@ -13,7 +13,7 @@ use crate::text_items::TextItems;
 use xml_items::classes::first;
 
 /// A piece of decoded characters.
-#[derive(Clone, Copy, Debug, PartialEq, Eq)]
+#[derive(Clone, Copy)]
 pub enum Piece<'a> {
     /// Characters that stand so in the source, at least one.
     Run(&'a str),
@@ -22,7 +22,7 @@ pub enum Piece<'a> {
 }
 
 /// Decoded characters, one piece after another. It takes no memory.
-#[derive(Clone, Copy, Debug)]
+#[derive(Clone, Copy)]
 pub struct Pieces<'a> {
     pub(crate) front: Front<'a>,
     pub(crate) items: TextItems<'a>,
@@ -84,10 +84,11 @@ impl<'a> Pieces<'a> {
         Pieces { front, items }
     }
 
-    // The first piece, and those behind it.
-    fn first(self) -> Option<(Piece<'a>, Pieces<'a>)>
+    /// The first piece, which has a character, and those behind it.
+    pub fn first(self) -> Option<(Piece<'a>, Pieces<'a>)>
         ensures first { MatchOption result (characters_left self.entry ≡ []) (λ r. characters_left self.entry ≡ characters_in r.0 ++ characters_left r.1) }
         ensures shorter { IfSome result (λ r. size_left r.1 < size_left self.entry) }
+        ensures some { IfSome result (λ r. is_empty (characters_in r.0) ≡ false) }
     {
         let mut pieces = self;
         'sections: loop {
@@ -142,6 +143,7 @@ impl<'a> Iterator for Pieces<'a> {
 
     ghost remaining = { pieces_left };
 
+    /// The next piece, as `first` gives it.
     fn next(&mut self) -> Option<Piece<'a>> {
         let (piece, behind) = self.first()?;
         *self = behind;

@@ -1,16 +1,16 @@
-mod WorkedRows
-mod Faults
-mod Texts
+mod ItemExamples
+mod FaultExamples
+mod TextExamples
 pub mod Kept
-mod Deep
-mod Placed
-mod Cases
+mod DepthExamples
+mod PlaceExamples
+mod EdgeFaults
 pub mod Through
 pub mod Grown
 pub mod Put
-mod Inserted
+mod InsertionExamples
 pub mod Targets
-mod Forms
+mod FormExamples
 pub mod Joins
 pub mod Extending
 pub mod ListOrder

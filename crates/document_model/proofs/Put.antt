@@ -1,6 +1,6 @@
 -- Content that is put into an element while later items stand behind it.
 use Rattle.std.proofs.Common.{◌≡◌, ℕ, zero, suc, pred, ◌+◌, List, [], ◌∷◌, ◌++◌, Option, Some, refl, sym, ◌∙◌, ap, subst, subst₂, inl, inr, ◌⊎◌, arith}
-use Rattle.std.proofs.lemmas.Option.{none-some}
+use Rattle.std.proofs.lemmas.Option.{none-some, same_Some}
 use Rattle.std.specs.Prelude.{option_map, option_and_then}
 use Rattle.std.specs.Option.{option_map_or}
 use Rattle.document_model.specs.Names.{Name}
@@ -20,9 +20,6 @@ in_last_at f g no_nodes node e h = refl
 in_last_at f g (n ⨾ no_nodes) node e h = ap (λ m. m ⨾ no_nodes) (h n e)
 in_last_at f g (n ⨾ next ⨾ nodes) node e h = ap (λ r. n ⨾ r) (in_last_at f g (next ⨾ nodes) node e h)
 
-pub some_same : (a b : Node) → Some a ≡ Some b → a ≡ b
-some_same a b e = ap (λ o. option_map_or (λ x. x) o b) e
-
 abbrev path_below : ℕ → Option Node → Path
 path_below d o = option_map_or (λ node. last_path d (below node)) o []
 
@@ -33,7 +30,7 @@ grown_at : (d : ℕ) (added : Nodes)
 grown_at d added same nodes s =
     in_last_at (in_nodes_of (grown d added)) (with_last added (last_path d (below s.0))) nodes s.0 s.1
     (λ n e. let P : Node → Type 0 = λ m. in_nodes_of (grown d added) m ≡ with_last added (last_path d (below s.0)) m in
-    subst P (sym (some_same n s.0 e)) (same s.0 s.3))
+    subst P (sym (same_Some n s.0 e)) (same s.0 s.3))
     ∙ ap (λ path. in_last (with_last added path) nodes) (sym (ap (path_below d) s.1))
     ∙ sym (nth_is_last (with_last added (path_below d (last_of nodes))) nodes)
 
@@ -79,10 +76,6 @@ full_in_nth f k no_nodes h = absurd h
 full_in_nth f zero (node ⨾ nodes) h = tt
 full_in_nth f (suc k) (node ⨾ nodes) h = tt
 
-before_full : (k : ℕ) (nodes : Nodes) → Before k nodes → Full nodes
-before_full k no_nodes h = absurd h
-before_full k (node ⨾ nodes) h = tt
-
 change_before : (f g : Node → Node) (k : ℕ) (nodes : Nodes) → Before k nodes → in_last g (in_nth k f nodes) ≡ in_nth k f (in_last g nodes)
 change_before f g k no_nodes h = absurd h
 change_before f g zero (node ⨾ no_nodes) h = absurd h
@@ -95,7 +88,7 @@ change_last : (f g : Node → Node) (k : ℕ) (nodes : Nodes) (node : Node) → 
     → g (f node) ≡ f (g node) → in_last g (in_nth k f nodes) ≡ in_nth k f (in_last g nodes)
 change_last f g k no_nodes node h e same = absurd h
 change_last f g zero (n ⨾ no_nodes) node h e same =
-    let P : Node → Type 0 = λ m. g (f m) ≡ f (g m) in ap (λ m. m ⨾ no_nodes) (subst P (sym (some_same n node e)) same)
+    let P : Node → Type 0 = λ m. g (f m) ≡ f (g m) in ap (λ m. m ⨾ no_nodes) (subst P (sym (same_Some n node e)) same)
 change_last f g zero (n ⨾ next ⨾ nodes) node h e same = absurd h
 change_last f g (suc k) (n ⨾ no_nodes) node h e same = absurd h
 change_last f g (suc k) (n ⨾ next ⨾ nodes) node h e same =
@@ -116,10 +109,10 @@ join_changed : (added : Nodes) (path : Path) (k : ℕ) (nodes x : Nodes) (node :
     → joined (in_nth k (with_last added path) nodes) x ≡ in_nth k (with_last added path) (joined nodes x)
 join_changed added path k no_nodes x node e h = absurd (none-some _ e)
 join_changed added path zero (Element name attributes inner ⨾ nodes) x node e h = with_last_element added path name attributes inner nodes x
-join_changed added path zero (Text cs ⨾ nodes) x node e h = let P : Node → Type 0 = IsElement in absurd (subst P (sym (some_same (Text cs) node e)) h)
-join_changed added path zero (Comment cs ⨾ nodes) x node e h = let P : Node → Type 0 = IsElement in absurd (subst P (sym (some_same (Comment cs) node e)) h)
+join_changed added path zero (Text cs ⨾ nodes) x node e h = let P : Node → Type 0 = IsElement in absurd (subst P (sym (same_Some (Text cs) node e)) h)
+join_changed added path zero (Comment cs ⨾ nodes) x node e h = let P : Node → Type 0 = IsElement in absurd (subst P (sym (same_Some (Comment cs) node e)) h)
 join_changed added path zero (Instruction target content ⨾ nodes) x node e h =
-    let P : Node → Type 0 = IsElement in absurd (subst P (sym (some_same (Instruction target content) node e)) h)
+    let P : Node → Type 0 = IsElement in absurd (subst P (sym (same_Some (Instruction target content) node e)) h)
 join_changed added path (suc k) (Element name attributes inner ⨾ nodes) x node e h = ap (λ r. Element name attributes inner ⨾ r) (join_changed added path k nodes x node e h)
 join_changed added path (suc k) (Comment cs ⨾ nodes) x node e h = ap (λ r. Comment cs ⨾ r) (join_changed added path k nodes x node e h)
 join_changed added path (suc k) (Instruction target content ⨾ nodes) x node e h = ap (λ r. Instruction target content ⨾ r) (join_changed added path k nodes x node e h)

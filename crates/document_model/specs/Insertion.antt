@@ -99,3 +99,11 @@ put_inside content host bytes = pieces_with content host [] (run limits bytes).p
 -- The law: nothing of the document is changed.
 abbrev pub OnlyAdds : Type 0
 OnlyAdds = (content bytes : List ℕ) (host : Path) → Extends bytes (put_inside content host bytes)
+
+-- The law: a document extends itself.
+abbrev pub ExtendsItself : Type 0
+ExtendsItself = (a : List ℕ) → Extends a a
+
+-- The law: what extends a document that extends another one extends that one.
+abbrev pub ExtendsThrough : Type 0
+ExtendsThrough = (a b c : List ℕ) → Extends a b → Extends b c → Extends a c

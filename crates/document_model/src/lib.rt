@@ -4,7 +4,7 @@
 //! The definitions stand in `specs/`, one file a topic. Each function here has an empty body, and its contract is a law.
 #![tactic(auto)]
 
-ghost use Rattle.document_model.specs.Insertion.{KeepsTexts, KeepsTextsBeside, KeepsTargets, PutsLast, OpensTag, OnlyAdds};
+ghost use Rattle.document_model.specs.Insertion.{KeepsTexts, KeepsTextsBeside, KeepsTargets, PutsLast, OpensTag, OnlyAdds, ExtendsItself, ExtendsThrough};
 
 /// A node set's part and canonical text stay where content is put in as the last children of an element that the set doesn't reach
 /// (`outside`), and where signatures are put in beside a set without signatures (`beside`).
@@ -13,9 +13,12 @@ pub fn texts_stay()
     ensures beside { KeepsTextsBeside }
 {}
 
-/// Putting content into an element changes and moves no byte of a document: all its bytes stand in the new one, in their order.
+/// Putting content into an element changes and moves no byte of a document: all its bytes stand in the new one, in their order (`adds`).
+/// So it is after no content (`whole`) and after one content after another (`through`).
 pub fn documents_only_grow()
-    ensures { OnlyAdds }
+    ensures adds { OnlyAdds }
+    ensures whole { ExtendsItself }
+    ensures through { ExtendsThrough }
 {}
 
 /// Content without identifiers changes no target of a same-document reference (XML Signature 1.1, "Same-Document URI-References").

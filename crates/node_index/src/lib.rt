@@ -11,6 +11,3 @@ pub use identifiers::Identifiers;
 pub use indices::NodeIndex;
 pub use sightings::Sightings;
 pub use texts::{fragment, gathered};
-
-#[cfg(test)]
-mod tests;

@@ -5,7 +5,7 @@ ghost use Rattle.std.specs.Prelude.{◌≡◌};
 use doc_spans::NodeId;
 
 /// The nodes that were added under a text, as far as the first two.
-#[derive(Clone, Copy, PartialEq, Eq, Debug)]
+#[derive(Clone, Copy, PartialEq, Eq)]
 pub enum Sightings {
     /// No node.
     Absent,

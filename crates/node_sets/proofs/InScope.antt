@@ -1,6 +1,5 @@
 -- What prefixes and names mean at a node, told on the way outward from it.
 use Rattle.std.proofs.Common.{◌≡◌, ℕ, suc, ◌<◌, Bool, true, false, ◌&&◌, List, [], ◌∷◌, length, Option, Some, None, is_some, refl, sym, ◌∙◌, ap, arith}
-use Rattle.std.proofs.lemmas.Option.{none-some}
 use Rattle.std.specs.Prelude.{option_and_then, IfSome, IfNone}
 use Rattle.std.specs.Option.{option_map_or}
 use Rattle.std.specs.Str.{bytes_eq}
@@ -102,25 +101,3 @@ attribute_of doc node tag name e =
     let element = element_of (node_in doc node) tag e in
     ap (λ tags. value_among tags name tag.attributes) (own_scope doc node tag element)
     ∙ sym (ap (λ o. option_and_then (attribute_value (elements_around (document_in doc) (path_in doc node)) name) o) element.is)
-
--- Another node.
-
-none_named : (outer : List Tag) (name : Expanded) (found : Option Node) → None ≡ option_and_then tag_of_node found → false ≡ option_map_or (is_named outer name) found false
-none_named outer name None e = refl
-none_named outer name (Some (Element written attributes nodes)) e = absurd (none-some _ e)
-none_named outer name (Some (Text cs)) e = refl
-none_named outer name (Some (Comment cs)) e = refl
-none_named outer name (Some (Instruction target content)) e = refl
-
-pub not_named : (doc : Doc) (node : NodeId) (name : Expanded) → None ≡ tag_of doc node → false ≡ named_at doc node name
-not_named doc node name e = none_named (elements_around (document_in doc) (path_in doc node)) name (node_in doc node) e
-
-none_there : (outer : List Tag) (name : Expanded) (found : Option Node) → None ≡ option_and_then tag_of_node found → None ≡ option_and_then (attribute_value outer name) found
-none_there outer name None e = refl
-none_there outer name (Some (Element written attributes nodes)) e = absurd (none-some _ e)
-none_there outer name (Some (Text cs)) e = refl
-none_there outer name (Some (Comment cs)) e = refl
-none_there outer name (Some (Instruction target content)) e = refl
-
-pub no_attribute : (doc : Doc) (node : NodeId) (name : Expanded) → None ≡ tag_of doc node → None ≡ attribute_at doc node name
-no_attribute doc node name e = none_there (elements_around (document_in doc) (path_in doc node)) name (node_in doc node) e

@@ -9,6 +9,3 @@ mod sets;
 pub use identifiers::{IdAnswer, find_id, is_identifier_name};
 pub use scopes::{attribute, in_scope, is_named};
 pub use sets::NodeSet;
-
-#[cfg(test)]
-mod tests;

@@ -1,31 +1,28 @@
 -- Texts of ASCII characters: they may stand in a document, and in a value where they begin no reference and no tag.
-use Rattle.std.proofs.Common.{◌≡◌, ℕ, zero, suc, ◌<◌, Bool, true, false, not, ◌||◌, List, [], ◌∷◌, ◌++◌, Option, Some, None, is_some, option_and_then, refl, sym, ◌∙◌, ap, arith}
+use Rattle.std.proofs.Common.{◌≡◌, ℕ, zero, suc, ◌<◌, Bool, true, false, not, ◌||◌, List, [], ◌∷◌, ◌++◌, Option, Some, None, is_some, option_and_then, refl, ◌∙◌, ap, arith}
 use Rattle.std.proofs.lemmas.Bool.{and_parts, and_from}
 use Rattle.std.proofs.lemmas.Bool.Decides.{nat_tests}
 use Rattle.std.proofs.lemmas.Str.{chars-IsAscii}
-use Rattle.std.specs.Str.{IsAscii, chars, bytes_eq}
+use Rattle.std.specs.Str.{IsAscii, chars}
 use Rattle.std.specs.List.{list_all}
-use Rattle.std.specs.Cmp.Lexicographic.{same_text}
 use Rattle.document_model.specs.Characters.{is_char, span, contains, pieces_at}
 use Rattle.document_model.specs.Items.{value_of, with_references}
 use Rattle.xml_items.specs.Runs.{is_ordinary}
 use Rattle.xml_items.specs.Texts.{is_plain}
-use Rattle.xml_items.specs.Found.{value_in}
-use Rattle.xml_items.proofs.AsciiTexts.{same_from}
 use Rattle.xml_items.proofs.OrdinaryCharacters.{ordinary_is, no_start}
 use Rattle.xml_items.proofs.Values.{normal, has_references, at_reference, references_behind}
 
-plain_ascii : (b : ℕ) → is_plain b ≡ true → b < 128
+pub plain_ascii : (b : ℕ) → is_plain b ≡ true → b < 128
 plain_ascii b h = grind (arith, nat_tests)
 
-plain_char : (b : ℕ) → is_plain b ≡ true → is_char b ≡ true
+pub plain_char : (b : ℕ) → is_plain b ≡ true → is_char b ≡ true
 plain_char b h = grind (arith, nat_tests)
 
 plain_all : (bs : List ℕ) → list_all is_plain bs ≡ true → list_all is_char bs ≡ true
 plain_all [] h = refl
 plain_all (b ∷ bs) h = let both = and_parts (is_plain b) (list_all is_plain bs) h in and_from _ _ (plain_char b both.0) (plain_all bs both.1)
 
-ascii_of : (p : ℕ → Bool) → ((b : ℕ) → p b ≡ true → b < 128) → (bs : List ℕ) → list_all p bs ≡ true → IsAscii bs
+pub ascii_of : (p : ℕ → Bool) → ((b : ℕ) → p b ≡ true → b < 128) → (bs : List ℕ) → list_all p bs ≡ true → IsAscii bs
 ascii_of p f [] h i = omega arith
 ascii_of p f (b ∷ bs) h zero = f b (and_parts (p b) (list_all p bs) h).0
 ascii_of p f (b ∷ bs) h (suc i) = ascii_of p f bs (and_parts (p b) (list_all p bs) h).1 i
@@ -59,7 +56,3 @@ pub ordinary_value : (bs : List ℕ) → list_all is_ordinary bs ≡ true → is
 ordinary_value bs h =
     ap (λ cs. is_some (value_of cs)) (chars-IsAscii bs (ascii_of is_ordinary (λ b e. (ordinary_is b e).ascii) bs h))
     ∙ value_there bs (references_behind bs bs [] (no_reference bs h)).0 (no_tag bs h)
-
--- one text spells one value
-pub one_value : (a b : List ℕ) → bytes_eq (chars a) (chars b) ≡ true → bytes_eq (value_in (chars a)) (value_in (chars b)) ≡ true
-one_value a b e = same_from (value_in (chars a)) (value_in (chars b)) (ap value_in (same_text (chars a) (chars b) (sym e)))

@@ -37,12 +37,3 @@ pub tag_stands : {B : Type 0} (first second : B → List ℕ) (o c inside text :
     → IfSome found (λ x. StandsAt text (length o) (first x) × StandsAt text (length o + length (first x)) (second x))
 tag_stands first second o c inside text None e f = tt
 tag_stands first second o c inside text (Some x) e f = (front_stands o c inside text e (first x) (second x ++ f.0) f.1, second_stands o c inside text e (first x) (second x) f.0 f.1)
-
--- a text that stands in one that stands at a place
-pub stands_within : (whole inner text : List ℕ) (at place : ℕ) → StandsAt whole at inner → StandsAt inner place text → StandsAt whole (at + place) text
-stands_within whole inner text at place w v = record {
-  before = w.before ++ v.before;
-  behind = v.behind ++ w.behind;
-  joined = w.joined ∙ ap (λ x. w.before ++ (x ++ w.behind)) v.joined ∙ simp append_assoc refl;
-  place = length-append w.before v.before ∙ (λ i. w.place i + v.place i);
-}

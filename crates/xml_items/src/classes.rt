@@ -22,6 +22,8 @@ pub enum Class {
     NotWhite,
     // What stands for itself in an attribute value.
     InValue,
+    // What stands for itself wherever a text goes on.
+    InText,
 }
 
 #[inline(always)]
@@ -40,6 +42,18 @@ pub fn has(class: Class, c: char) -> bool
         Class::Quote => n == 0x22 || n == 0x27,
         Class::NotWhite => !matches!(n, 0x9..=0xA | 0xD | 0x20),
         Class::InValue => !matches!(n, 0x9..=0xA | 0xD | 0x26),
+        Class::InText => matches!(
+            n,
+            0x9..=0xA
+                | 0x20..=0x25
+                | 0x27..=0x3B
+                | 0x3D
+                | 0x3F..=0x5C
+                | 0x5E..=0x7E
+                | 0x80..=0xD7FF
+                | 0xE000..=0xFFFD
+                | 0x1_0000..=0x10_FFFF
+        ),
         Class::Decimal => matches!(n, 0x30..=0x39),
         Class::Hexadecimal => matches!(n, 0x30..=0x39 | 0x41..=0x46 | 0x61..=0x66),
     }

@@ -216,6 +216,7 @@ fn start_tag<'a>(text: &'a str) -> Option<(&'a str, &'a str)>
 // The name and the attributes of a start tag, where a tag is known to stand. None of an empty tag.
 pub(crate) fn known_start_tag<'a>(text: &'a str) -> Option<(&'a str, &'a str)>
     requires { IsTrue (is_some (item_of TagKind (chars text.now))) }
+    ensures placed { IfSome result (λ r. StandsAt text.now 1 r.0.now × StandsAt text.now (1 + length r.0.now) r.1.now) }
     ensures item { IfSome result (λ r. item_of TagKind (chars text.now) ≡ Some (start_tag (name_in (chars r.0.now)) (attributes_in (chars r.1.now)))) }
     ensures read { IfSome result (λ r. IsNameText r.0.now × AreAttributesText r.1.now) }
 {

@@ -5,6 +5,7 @@ ghost use Rattle.document_model.specs.Names.{is_plain_name, name_of, same_name};
 ghost use Rattle.xml_items.specs.Found.{name_in, IsNameText};
 
 use crate::classes::{Class, all, first, front, has};
+use crate::short_tags::is_short_name;
 
 pub fn is_plain_name(text: &str) -> bool
     ensures { result ≡ is_plain_name (chars text.now) }
@@ -24,6 +25,13 @@ pub fn is_plain_name(text: &str) -> bool
 
 // Whether a text is a name, of one part or of two that a colon joins.
 pub fn is_name(text: &str) -> bool
+    ensures { result ≡ is_some (name_of (chars text.now)) }
+{
+    is_short_name(text.as_bytes()) || is_name_by_parts(text)
+}
+
+// The same, by the characters of its parts.
+fn is_name_by_parts(text: &str) -> bool
     ensures { result ≡ is_some (name_of (chars text.now)) }
 {
     let (prefix, behind) = front(text, Class::Except(':'));

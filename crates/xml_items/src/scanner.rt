@@ -8,6 +8,7 @@ ghost use Rattle.xml_items.specs.Spans.{IsPlaced};
 use crate::cuts::{Kind, cut, kind_at};
 use crate::items::{Found, item_of, known_start_tag};
 use crate::runs::is_ordinary;
+use crate::short_tags::short_tag;
 use crate::texts::characters;
 
 // An item, and where it ends.
@@ -27,7 +28,10 @@ pub fn next_item<'a>(bytes: &'a [u8], at: usize) -> Option<Scanned<'a>>
 {
     match short_item(bytes, at) {
         Some(scanned) => Some(scanned),
-        None => scan(bytes, at),
+        None => match short_tag(bytes, at) {
+            Some(scanned) => Some(scanned),
+            None => scan(bytes, at),
+        },
     }
 }
 
@@ -82,11 +86,16 @@ pub fn known_item<'a>(bytes: &'a [u8], at: usize) -> Option<Scanned<'a>>
     requires at { at ≤ length bytes.now }
     requires stands { IsTrue (is_some (piece_at (drop at bytes.now))) }
     ensures item { piece_at (drop at bytes.now) ≡ option_map (piece_in bytes.now at) result }
+    ensures placed { IfSome result (λ scanned. IsPlaced (take (scanned.end - at) (drop at bytes.now)) scanned.found) }
     ensures read { IfSome result (λ scanned. IsRead scanned.found) }
+    ensures within { IfSome result (λ scanned. (at < scanned.end) × (scanned.end ≤ length bytes.now)) }
 {
-    match known_start(bytes, at) {
+    match short_tag(bytes, at) {
         Some(scanned) => Some(scanned),
-        None => next_item(bytes, at),
+        None => match known_start(bytes, at) {
+            Some(scanned) => Some(scanned),
+            None => next_item(bytes, at),
+        },
     }
 }
 
@@ -95,7 +104,9 @@ fn known_start<'a>(bytes: &'a [u8], at: usize) -> Option<Scanned<'a>>
     requires at { at ≤ length bytes.now }
     requires stands { IsTrue (is_some (piece_at (drop at bytes.now))) }
     ensures item { IfSome result (λ scanned. piece_at (drop at bytes.now) ≡ Some (piece_in bytes.now at scanned)) }
+    ensures placed { IfSome result (λ scanned. IsPlaced (take (scanned.end - at) (drop at bytes.now)) scanned.found) }
     ensures read { IfSome result (λ scanned. IsRead scanned.found) }
+    ensures within { IfSome result (λ scanned. (at < scanned.end) × (scanned.end ≤ length bytes.now)) }
 {
     let rest = &bytes[at..];
     match kind_at(rest) {

@@ -1,5 +1,5 @@
 // Tags: names with values in quotes.
-ghost use Rattle.std.specs.Prelude.{◌≡◌, ◌<◌, ◌≤◌, List, [], length, is_some, option_map, option_and_then, IfSome, ℕ, ◌++◌, IsTrue};
+ghost use Rattle.std.specs.Prelude.{Some, ◌≡◌, ◌<◌, ◌≤◌, List, [], length, is_some, option_map, option_and_then, IfSome, ℕ, ◌++◌, IsTrue};
 ghost use Rattle.std.specs.Str.{chars, IsUtf8};
 ghost use Rattle.document_model.specs.Names.{Name};
 ghost use Rattle.document_model.specs.Characters.{pieces_at, with_blanks, with_line_ends};
@@ -11,6 +11,7 @@ use crate::classes::{Class, behind_one, first, front};
 use crate::names::is_name;
 use crate::references::referred;
 use crate::runs::are_ordinary;
+use crate::short_tags::{ascii_text, quoted_end, short_run};
 use crate::texts::{contains, without_space_behind};
 
 // A name, and the text that stands in quotes behind it.
@@ -22,6 +23,47 @@ pub struct Pair<'a> {
 
 // The pair at the front of a text, and what is behind it.
 pub fn pair_at<'a>(text: &'a str) -> Option<(Pair<'a>, &'a str)>
+    ensures pair { pair_at (chars text.now) ≡ option_map (λ r. (pair_in r.0, chars r.1.now)) result }
+    ensures utf8 { IfSome result (λ r. IsUtf8 r.1.now) }
+{
+    if text.is_empty() {
+        return None;
+    }
+    match quick_pair(text) {
+        Some(found) => Some(found),
+        None => pair_by_characters(text),
+    }
+}
+
+// The pair behind one space, where its name and its text are of ASCII and no other space stands around them.
+fn quick_pair<'a>(text: &'a str) -> Option<(Pair<'a>, &'a str)>
+    ensures pair { IfSome result (λ r. pair_at (chars text.now) ≡ Some (pair_in r.0, chars r.1.now)) }
+    ensures utf8 { IfSome result (λ r. IsUtf8 r.1.now) }
+{
+    let bytes = text.as_bytes();
+    if bytes.len() > 0 && bytes[0] == b' ' {
+        let equals = short_run(bytes, 1);
+        if equals + 2 <= bytes.len() && bytes[equals] == b'=' {
+            let quote = bytes[equals + 1];
+            let start = equals + 2;
+            if quote == b'"' || quote == b'\'' {
+                let end = quoted_end(bytes, start, quote);
+                if end < bytes.len() && bytes[end] == quote {
+                    let (_, rest) = text.split_at(end + 1);
+                    let pair = Pair {
+                        name: ascii_text(bytes, 1, equals),
+                        text: ascii_text(bytes, start, end),
+                    };
+                    return Some((pair, rest));
+                }
+            }
+        }
+    }
+    None
+}
+
+// The same as `pair_at`, by its characters.
+fn pair_by_characters<'a>(text: &'a str) -> Option<(Pair<'a>, &'a str)>
     ensures pair { pair_at (chars text.now) ≡ option_map (λ r. (pair_in r.0, chars r.1.now)) result }
     ensures utf8 { IfSome result (λ r. IsUtf8 r.1.now) }
 {

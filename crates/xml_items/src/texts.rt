@@ -1,12 +1,45 @@
 // Texts between others, and texts in texts.
-ghost use Rattle.std.specs.Prelude.{false, ◌≡◌, ◌++◌, ◌<◌, nat_eq, nat_lt, Some, None, MatchOption, IsTrue, option_map, map, length, IfSome, ℕ, List};
+ghost use Rattle.std.specs.Prelude.{false, ◌≡◌, ◌++◌, ◌<◌, ◌≤◌, ◌-◌, take, drop, nat_eq, nat_lt, Some, None, MatchOption, IsTrue, option_map, map, length, IfSome, ℕ, List};
 ghost use Rattle.std.specs.List.{list_all, starts_with, ends_with};
-ghost use Rattle.std.specs.Str.{chars, str_to_ascii_lowercase};
+ghost use Rattle.std.specs.Str.{chars, str_to_ascii_lowercase, IsUtf8};
 ghost use Rattle.document_model.specs.Characters.{characters, is_char, between, contains, is_empty, ◌is◌};
 ghost use Rattle.document_model.specs.Items.{without_space_behind, lower_case};
 ghost use Rattle.xml_items.specs.Texts.{is_ascii, is_plain, HasEnd};
 
 use crate::classes::{Class, all, has};
+
+// From how many bytes on they are tested sixty-four at once.
+const LONG: usize = 64;
+
+/// The text that bytes spell.
+pub fn utf8_text(bytes: &[u8]) -> Option<&str>
+    ensures { MatchOption result (IsUtf8 bytes.now → ⊥) (λ text. (text.now ≡ bytes.now) × IsUtf8 bytes.now) }
+{
+    if bytes.len() < LONG {
+        match str::from_utf8(bytes) {
+            Ok(text) => Some(text),
+            Err(_) => None,
+        }
+    } else {
+        match simdutf8::compat::from_utf8(bytes) {
+            Ok(text) => Some(text),
+            Err(_) => None,
+        }
+    }
+}
+
+/// The text that a part of bytes spells.
+pub fn utf8_part(bytes: &[u8], start: usize, end: usize) -> &str
+    requires order { start ≤ end }
+    requires within { end ≤ length bytes.now }
+    requires utf8 { IsUtf8 (take (end - start) (drop start bytes.now)) }
+    ensures { result.now ≡ take (end - start) (drop start bytes.now) }
+{
+    match utf8_text(&bytes[start..end]) {
+        Some(text) => text,
+        None => unreachable!(),
+    }
+}
 
 // The text that bytes spell, where all its characters may stand in a document.
 pub fn characters(bytes: &[u8]) -> Option<&str>
@@ -38,7 +71,7 @@ fn are_plain(bytes: &[u8]) -> bool
     bytes.iter().all(|byte| is_plain(*byte))
 }
 
-fn is_plain(byte: u8) -> bool
+pub(crate) fn is_plain(byte: u8) -> bool
     ensures { result ≡ is_plain byte }
 {
     (byte >= 0x20 && byte <= 0x7E) || matches!(byte, 0x9..=0xA | 0xD)

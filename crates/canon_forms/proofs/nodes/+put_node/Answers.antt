@@ -11,7 +11,7 @@ use Rattle.doc_spans.proofs.ChildSteps.{one_more}
 use Rattle.doc_spans.proofs.Elements.{element_of, child_of, smaller}
 use Rattle.doc_spans.proofs.Shows.{outer_more}
 use Rattle.canon_tags.specs.Around.{around_in}
-use Rattle.canon_tags.specs.Rules.{rule_in}
+use Rattle.canon_methods.specs.Rules.{rule_in}
 use Rattle.canon_forms.specs.Writing.{IsReached}
 use Rattle.canon_forms.specs.Walks.{doc_of, held_in, written_in}
 use Rattle.canon_forms.proofs.ChildNodes.{left_in, child_written, child_left_out, none_left, held_child}

@@ -1,6 +1,6 @@
 use Rattle.std.proofs.Common.{◌∙◌}
 use Rattle.node_sets.specs.Sets.{set_in, doc_in}
-use Rattle.canon_forms.specs.Forms.{form_in}
+use Rattle.canon_methods.specs.Forms.{form_in}
 use Rattle.canon_forms.proofs.SetOctets.{IsWalk, lines_octets, apex_octets, from_nothing}
 use Rattle.canon_forms.proofs.writing.to_vec.Goals as goal
 use Rattle.canon_forms.proofs.writing.to_vec.Goals.{in-Some+in_ok-put_apex-in-Some, in-None+in_ok-put_lines-in-None}

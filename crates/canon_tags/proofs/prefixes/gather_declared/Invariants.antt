@@ -1,7 +1,7 @@
 use Rattle.std.proofs.Common.{◌≡◌, drop}
 use Rattle.doc_spans.specs.Looked.{declared}
 use Rattle.canon_tags.specs.Own.{own_prefixes}
-use Rattle.canon_tags.specs.Rules.{rule_in}
+use Rattle.canon_methods.specs.Rules.{rule_in}
 use Rattle.canon_tags.specs.Scoped.{gathered, is_declared_anew}
 use Rattle.canon_tags.specs.Texts.{texts_in}
 use Rattle.canon_tags.proofs.prefixes.gather_declared.Given as goal

@@ -42,7 +42,7 @@ items-preserved g c =
       | then-run-gt0+in_ok-add w ↦
           let run = c.run_there-run.result in
           let Q : Standing → Type 0 = λ st. ReadTo bytes (at + run) (state_of c.if-run-gt0.builder) st in
-          let read = run_next bytes at run (state_of c.items.builder) (state_of c.if-run-gt0.builder) (standing_in c.items.standing) small c.run_there-run.ensures.run w.if-run-gt0.true r
+          let read = run_next bytes at run (state_of c.items.builder) (state_of c.if-run-gt0.builder) (standing_in c.items.standing) small c.run_there-run.ensures.bound w.if-run-gt0.true (c.run_there-run.ensures.going w.if-run-gt0.true) c.run_there-run.ensures.utf8 c.run_there-run.ensures.text r
           (ap state_of w.builder-is ∙ w.in_ok-add.ensures) in
           (subst P (sym w.end-is) (subst Q (sym (ap standing_in w.standing-is)) read), counted (omega (arith, w.end-is, w.if-run-gt0.true)))
       | else-run-gt0+in_ok-item+in_ok-take_item w ↦

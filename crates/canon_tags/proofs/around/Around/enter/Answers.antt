@@ -5,7 +5,7 @@ use Rattle.canon_tags.specs.Around.{around_in}
 use Rattle.doc_spans.specs.Declarations.{nearest_first}
 use Rattle.canon_tags.specs.Entries.{entries_text, is_named_before, named, plain_ones}
 use Rattle.doc_spans.specs.Opened.{opened_in}
-use Rattle.canon_tags.specs.Rules.{rule_in}
+use Rattle.canon_methods.specs.Rules.{rule_in}
 use Rattle.doc_spans.specs.Scoped.{scope_of}
 use Rattle.doc_spans.specs.Scopes.{tags_around}
 use Rattle.canon_tags.specs.Texts.{texts_in}
@@ -13,8 +13,8 @@ use Rattle.canon_tags.proofs.AttributeTexts.{written_attributes}
 use Rattle.canon_tags.proofs.Entering.{found_declarations, shared_scope, given_attributes}
 use Rattle.canon_tags.proofs.around.Around.enter.Goals as goal
 
-pub arrange-requires : goal.arrange-requires
-arrange-requires c =
+pub arrange-requires-clause-givers : goal.arrange-requires-clause-givers
+arrange-requires-clause-givers c =
     let inner = c.in_ok-outside.ensures.inner in
     let n : length c.push.new.self.tags.items ≡ length c.args.self.now.scopes.tags.items + 1 = ap length inner.1 ∙ length-append c.args.self.now.scopes.tags.items (inner.0 ∷ []) in
     omega (arith, c.givers-givers.ensures.bound, n)

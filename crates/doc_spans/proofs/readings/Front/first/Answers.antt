@@ -5,7 +5,7 @@ use Rattle.std.proofs.lemmas.Str.{scalars-chars}
 use Rattle.std.specs.Str.{chars, IsUtf8}
 use Rattle.doc_spans.specs.Pieces.{characters_in, front_left}
 use Rattle.doc_spans.specs.ReadAs.{is_readable}
-use Rattle.xml_items.proofs.AsciiTexts.{chars_empty}
+use Rattle.xml_items.proofs.AsciiTexts.{chars_empty, empty_chars}
 use Rattle.doc_spans.proofs.LiteralRuns.{run_found, written_end, lines_end, lines_step, value_scalar}
 use Rattle.doc_spans.proofs.readings.Front.first.Goals as goal
 
@@ -42,3 +42,6 @@ pub returns-in_ok-text-in-LineEnds-clause-first : goal.returns-in_ok-text-in-Lin
 returns-in_ok-text-in-LineEnds-clause-first c =
     lines_step c.args.self.reading (chars c.args.self.text.now) _ _ c.in_ok-text-in-LineEnds.field-0-0 (chars c.in_ok-text-in-LineEnds.text.now) (chars c.behind_line_feed.result.now) c.in-LineEnds.is
     c.literal_front.ensures.split (empty c.literal_front.result.0.now c.if-not-is_empty.ensures) c.in_ok-text-in-LineEnds.ensures.chars c.behind_line_feed.ensures.line
+
+pub returns-then-not-is_empty-clause-some : goal.returns-then-not-is_empty-clause-some
+returns-then-not-is_empty-clause-some c = empty_chars c.literal_front.result.0.now c.literal_front.ensures.front_utf8 ∙ sym c.if-not-is_empty.ensures

@@ -1,8 +1,10 @@
-use Rattle.std.proofs.Common.{◌≡◌, ◌-◌, ◌++◌, ◌∙◌, ap, sym, arith, length, take, drop, length-drop}
+use Rattle.std.proofs.Common.{◌≡◌, ◌==◌, ◌-◌, ◌++◌, ◌∙◌, false, ap, sym, arith, length, take, drop, length-drop}
+use Rattle.std.proofs.lemmas.Bool.{ne_eqb}
 use Rattle.std.proofs.lemmas.List.{length-take-le}
 use Rattle.std.proofs.lemmas.Str.{IsUtf8-from_is_utf8}
 use Rattle.std.specs.Str.{chars}
 use Rattle.xml_items.specs.Items.{item_in}
+use Rattle.xml_items.proofs.AsciiTexts.{empty_chars}
 use Rattle.doc_spans.specs.Texts.{text_between}
 use Rattle.doc_spans.proofs.ItemKinds.{piece_names_char, scalar_found, section_fits}
 use Rattle.doc_spans.proofs.ItemRuns.{hold_order, run_of, one_of, some_item}
@@ -66,3 +68,14 @@ returns-clause-shorter c =
     let n : length whole ≡ scanned.end - self.at = length-take-le (scanned.end - self.at) (drop self.at self.bytes.now) (let l = length-drop self.at self.bytes.now in omega (arith, l, within, less)) in
     let fits = section_fits whole scanned.found c.in-Some.ensures.placed (omega (arith, n, less)) in
     let size = c.part_of-part.ensures.size in omega (arith, order, less, n, fits, size)
+
+pub returns-then-at-behind-clause-some : goal.returns-then-at-behind-clause-some
+returns-then-at-behind-clause-some c =
+    let self = c.args.self in
+    let to = c.literal_end-behind in
+    let text = c.utf8_part-text.result.now in
+    let left : length (drop self.at self.bytes.now) ≡ length self.bytes.now - self.at = length-drop self.at self.bytes.now in
+    let size : length text ≡ to.result - self.at
+    = ap length c.utf8_part-text.ensures ∙ length-take-le (to.result - self.at) (drop self.at self.bytes.now) (omega (arith, left, to.ensures.within, self.within)) in
+    let some : (length text == 0) ≡ false = ne_eqb (length text) 0 (λ e. omega (arith, size, e, c.if-at-behind.true)) in
+    empty_chars text c.utf8_part-text.utf8 ∙ some

@@ -1,0 +1,4 @@
+pub mod Texts
+pub mod There
+pub mod ListWords
+pub mod Named

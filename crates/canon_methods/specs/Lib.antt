@@ -1,0 +1,5 @@
+pub mod Words
+pub mod Sought
+pub mod Rules
+pub mod Forms
+pub mod Listed

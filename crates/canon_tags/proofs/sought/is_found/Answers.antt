@@ -1,5 +1,0 @@
-use Rattle.canon_tags.proofs.ListWords.{at_end}
-use Rattle.canon_tags.proofs.sought.is_found.Goals as goal
-
-pub returns-in-Word : goal.returns-in-Word
-returns-in-Word c = λ test word. at_end c.args.sought word c.in-Word.rest test c.is_empty.result c.in-Word.is c.is_empty.ensures
