@@ -48,6 +48,10 @@ closed : (b : Bool) → not b ≡ true → b ≡ false
 closed false h = refl
 closed true h = absurd (false≢true h)
 
+first_true : (a b : Bool) → a && b ≡ true → a ≡ true
+first_true true b h = refl
+first_true false b h = h
+
 -- Characters past ASCII are refused.
 
 within : (a b : ℕ) → a ≤ b → nat_le a b ≡ true
@@ -95,12 +99,7 @@ encoded_walk step walk stop w s (c ∷ cs) = elim (cases_lt c 128) [
 -- Readings.
 
 abbrev stopped : Reading → Reading
-stopped r = record { stage = Refused; front = r.front }
-
--- several texts are read as one
-pub read_on-append : (r : Reading) (a b : List ℕ) → read_on r (a ++ b) ≡ read_on (read_on r a) b
-read_on-append r [] b = refl
-read_on-append r (c ∷ a) b = read_on-append (read r c) a b
+stopped r = record { stage = Refused; front = r.front; spent = r.spent }
 
 refused_read : (r : Reading) (c : ℕ) → read (stopped r) c ≡ stopped r
 refused_read r c = by_test (λ x. x ≡ stopped r) (is_white c) (stopped r) (moved (stopped r) (after Refused c) c) (λ e. refl) (λ e. ap (λ s. moved (stopped r) s c) (after_refused c))
@@ -123,7 +122,7 @@ pub read_chars : (r : Reading) (text : List ℕ) → IsUtf8 text → read_on r t
 read_chars r text u = ap (read_on r) (sym (encodes-chars text u)) ∙ encoded_walk read read_on stopped reading_stops r (chars text)
 
 fault_is : (r : Reading) → has_fault r ≡ true → r ≡ stopped r
-fault_is r h = ap (λ (s : Stage). let x : Reading = record { stage = s; front = r.front } in x) (closed_refused r.stage (closed (is_open r.stage) h))
+fault_is r h = ap (λ (s : Stage). let x : Reading = record { stage = s; front = r.front; spent = r.spent } in x) (closed_refused r.stage (closed (is_open r.stage) (first_true (not (is_open r.stage)) (not r.spent) h)))
 
 pub fault_stays : (r : Reading) (c : ℕ) → has_fault r ≡ true → read r c ≡ r
 fault_stays r c h = ap (λ x. read x c) (fault_is r h) ∙ refused_read r c ∙ sym (fault_is r h)
@@ -197,10 +196,6 @@ goes_further stage next front c follows is h =
 
 abbrev halted : Scanner → Scanner
 halted s = record { stage = Refused; count = s.count }
-
-pub scan_on-append : (s : Scanner) (a b : List ℕ) → scan_on s (a ++ b) ≡ scan_on (scan_on s a) b
-scan_on-append s [] b = refl
-scan_on-append s (c ∷ a) b = scan_on-append (scan s c) a b
 
 refused_scan : (s : Scanner) (c : ℕ) → scan (halted s) c ≡ halted s
 refused_scan s c = by_test (λ x. x ≡ halted s) (is_white c) (halted s) (counted (halted s) (after Refused c)) (λ e. refl) (λ e. ap (λ t. counted (halted s) t) (after_refused c))

@@ -1,5 +1,5 @@
 -- What a scanner knows of the characters that were pushed into it.
-use Rattle.std.specs.Prelude.{ℕ, ◌+◌, ◌-◌, ◌^◌, min, if◌then◌else◌, List, [], ◌∷◌, Option, Some, None}
+use Rattle.std.specs.Prelude.{◌≡◌, ℕ, ◌+◌, ◌-◌, ◌^◌, min, if◌then◌else◌, List, [], ◌∷◌, ◌++◌, Option, Some, None, refl}
 use Rattle.document_model.specs.Characters.{is_white}
 use Rattle.signature_model.specs.Spots.{without_white}
 use Rattle.signature_model.specs.Base64.{is_strict, fault_in}
@@ -26,6 +26,11 @@ scan scanner c = if is_white c then scanner else counted scanner (after scanner.
 abbrev pub scan_on : Scanner → List ℕ → Scanner
 scan_on scanner [] = scanner
 scan_on scanner (c ∷ cs) = scan_on (scan scanner c) cs
+
+-- several texts are scanned as one
+pub scan_on-append : (scanner : Scanner) (a b : List ℕ) → scan_on scanner (a ++ b) ≡ scan_on (scan_on scanner a) b
+scan_on-append scanner [] b = refl
+scan_on-append scanner (c ∷ a) b = scan_on-append (scan scanner c) a b
 
 -- what is known of a whole text
 abbrev pub scanned : List ℕ → Scanner

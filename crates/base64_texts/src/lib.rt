@@ -12,6 +12,3 @@ mod taken;
 pub use decoder::{Decoder, decode};
 pub use faults::Base64Fault;
 pub use scanner::Scanner;
-
-#[cfg(test)]
-mod tests;

@@ -11,7 +11,7 @@ use crate::symbols::{is_white, octet_for};
 
 /// Tells whether a text that comes in pieces is strict base64 where white space is skipped (RFC 4648, section 4), and where it stops to
 /// be that. It takes no memory.
-#[derive(Clone, Copy, Debug, PartialEq, Eq)]
+#[derive(Clone, Copy)]
 pub struct Scanner {
     stage: Stage,
     count: usize,

@@ -6,7 +6,7 @@ ghost use Rattle.base64_texts.specs.Stages.{after, after_symbol, after_other, is
 use crate::symbols::symbol_value;
 
 // Where a text ends in a group of four symbols. Padding may follow where the last symbol's bits that belong to no octet are zero.
-#[derive(Clone, Copy, Debug, PartialEq, Eq)]
+#[derive(Clone, Copy)]
 pub(crate) enum Stage {
     // Behind whole groups of symbols.
     Start,

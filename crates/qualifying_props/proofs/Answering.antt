@@ -14,9 +14,10 @@ use Rattle.signature_model.specs.Spots.{Spot, paths}
 use Rattle.qualifying_props.specs.declared.faults.PartFault.{PartFault}
 use Rattle.qualifying_props.specs.Answers.{IsAnswer, IsFault}
 use Rattle.qualifying_props.specs.Collected.{ArePartsAt}
-use Rattle.qualifying_props.specs.PartsOf.{ArePartsOf}
+use Rattle.qualifying_props.specs.PartsOf.{AreParts, ArePartsOf}
 use Rattle.qualifying_props.specs.Shown.{Shown}
 use Rattle.qualifying_props.specs.Whole.{is_whole}
+use Rattle.qualifying_props.proofs.Wholes.{are_whole}
 
 pub are_several : (read : Spot → Answer) (spots : List Spot) → 1 < length spots → only read spots ≡ Several
 are_several read [] h = absurd (omega (arith, h))
@@ -37,7 +38,8 @@ pub only_answer : (doc : Doc) (signature : NodeId) (result : Result Shown PartFa
 only_answer doc signature (Ok parts) one at read err =
     let document = document_in doc in
     let P : NodeId → Type 0 = λ node. ArePartsOf doc document (spot_of doc node) parts in
-    (ap (only (read_parts is_whole document)) one ∙ read ∙ ap (λ node. Read (spot_of doc node)) (sym at.node), subst P (sym at.node) at.are)
+    let answers = ap (only (read_parts is_whole document)) one ∙ read ∙ ap (λ node. Read (spot_of doc node)) (sym at.node) in
+    let are : AreParts doc parts = subst P (sym at.node) at.are in (answers, are, are_whole doc parts answers are)
 only_answer doc signature (Err fault) one at read err =
     let F : Answer → Type 0 = λ found. IsFault doc found fault in
     subst F (sym (ap (only (read_parts is_whole (document_in doc))) one)) err

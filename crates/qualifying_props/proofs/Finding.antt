@@ -10,8 +10,8 @@ use Rattle.doc_spans.proofs.Each.{map_join}
 use Rattle.signature_model.specs.Faults.{first_place, with_places}
 use Rattle.signature_model.specs.Spots.{Spot, called, called_in, paths}
 use Rattle.signature_model.proofs.FirstFaults.{with_places_append, with_places_first}
-use Rattle.signature_shape.specs.declared.places.FirstPlace.{FirstPlace}
-use Rattle.signature_shape.specs.Places.{place_in, Adds, IsFirst, IsWithin}
+use Rattle.signature_parts.specs.declared.places.FirstPlace.{FirstPlace}
+use Rattle.signature_parts.specs.Places.{place_in, Adds, IsFirst, IsWithin}
 
 -- what is left comes to the first of all
 pub record Finding (doc : Doc) (left all : List Path) (now : FirstPlace) : Type 0 where

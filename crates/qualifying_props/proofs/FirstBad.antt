@@ -3,9 +3,9 @@ use Rattle.std.proofs.Common.{◌≡◌, List, ◌++◌, None, sym}
 use Rattle.doc_spans.specs.declared.documents.Doc.{Doc}
 use Rattle.doc_spans.specs.Seen.{document_in}
 use Rattle.signature_model.specs.Parts.{Datum}
-use Rattle.signature_shape.specs.declared.places.FirstPlace.{FirstPlace}
-use Rattle.signature_shape.specs.Places.{Adds, IsFirst}
-use Rattle.signature_shape.proofs.Adding.{adds_as, adds_more, adds_first}
+use Rattle.signature_parts.specs.declared.places.FirstPlace.{FirstPlace}
+use Rattle.signature_parts.specs.Places.{Adds, IsFirst}
+use Rattle.signature_parts.proofs.Adding.{adds_as, adds_more, adds_first}
 use Rattle.qualifying_props.specs.Data.{bad_places}
 use Rattle.qualifying_props.proofs.Reading.{bad_places-append}
 

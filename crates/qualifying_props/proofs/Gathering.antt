@@ -11,9 +11,9 @@ use Rattle.doc_spans.proofs.Each.{map_join}
 use Rattle.signature_elements.specs.Standing.{spot_of, IsThere}
 use Rattle.signature_model.specs.Parts.{data_of}
 use Rattle.signature_model.specs.Spots.{Spot}
-use Rattle.signature_shape.specs.declared.places.FirstPlace.{FirstPlace}
-use Rattle.signature_shape.specs.Places.{Adds, IsWithin}
-use Rattle.signature_shape.proofs.Adding.{Adding, adding_goes_on, adding_ends}
+use Rattle.signature_parts.specs.declared.places.FirstPlace.{FirstPlace}
+use Rattle.signature_parts.specs.Places.{Adds, IsWithin}
+use Rattle.signature_parts.proofs.Adding.{Adding, adding_goes_on, adding_ends}
 use Rattle.qualifying_props.specs.Data.{bad_places}
 use Rattle.qualifying_props.specs.PartsOf.{AreProperties, IsProperty}
 use Rattle.qualifying_props.specs.Properties.{IsOf}

@@ -9,3 +9,4 @@ pub mod DataOfKind
 pub mod FirstBad
 pub mod Signing
 pub mod Answering
+pub mod Wholes

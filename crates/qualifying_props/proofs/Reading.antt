@@ -8,9 +8,9 @@ use Rattle.doc_spans.specs.Seen.{document_in}
 use Rattle.signature_model.specs.Faults.{with_places}
 use Rattle.signature_model.specs.Parts.{Datum}
 use Rattle.signature_model.specs.Readable.{is_bad}
-use Rattle.signature_shape.specs.declared.places.FirstPlace.{FirstPlace}
-use Rattle.signature_shape.specs.Places.{place_in, Adds, IsWithin}
-use Rattle.signature_shape.proofs.Adding.{Adding, adds_none, adds_as, adding_goes_on, adding_ends}
+use Rattle.signature_parts.specs.declared.places.FirstPlace.{FirstPlace}
+use Rattle.signature_parts.specs.Places.{place_in, Adds, IsWithin}
+use Rattle.signature_parts.proofs.Adding.{Adding, adds_none, adds_as, adding_goes_on, adding_ends}
 use Rattle.qualifying_props.specs.Data.{all_octets, bad_places, octets_of, Reads}
 use Rattle.qualifying_props.specs.Whole.{is_whole}
 

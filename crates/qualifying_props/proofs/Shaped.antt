@@ -1,7 +1,7 @@
 -- What a signature without a fault in its shape has.
 use Rattle.std.proofs.Common.{◌≡◌, Bool, true, false, cond, not, ◌||◌, List, [], ◌∷◌, ◌++◌, Option, Some, None, refl, sym, ◌∙◌, ap, subst, codes}
 use Rattle.std.proofs.lemmas.Option.{none-some}
-use Rattle.std.specs.Prelude.{drop, filter, map, is_none, option_map, IsSome}
+use Rattle.std.specs.Prelude.{drop, filter, flat_map, map, is_none, option_map, IsSome}
 use Rattle.std.specs.List.{list_any}
 use Rattle.document_model.specs.Characters.{is_empty}
 use Rattle.document_model.specs.Names.{Expanded}
@@ -11,33 +11,33 @@ use Rattle.doc_spans.specs.declared.documents.NodeId.{NodeId}
 use Rattle.signature_elements.specs.Standing.{spot_or_none}
 use Rattle.signature_model.specs.Vocabulary.{ds, xades, DigestKind}
 use Rattle.signature_model.specs.Spots.{Spot, is_called, attribute, called, called_in, elements_in, first, paths}
-use Rattle.signature_model.specs.Parts.{signed_info, value, key_info, method, host, objects, is_qualifying, qualifying_objects, qualifying, unsigned, unsigned_signature, signed_properties, signed_signature_properties, signing_certificate_property, signing_time, certificate_digest, digest_methods, digest_values, digest_kind}
+use Rattle.signature_model.specs.Parts.{signed_info, value, key_info, method, host, objects, is_qualifying, qualifying_objects, qualifying, unsigned, unsigned_signature, signed_properties, signed_signature_properties, signing_certificate_property, signing_time, certificate_digest, digest_methods, digest_values, digest_kind, stamps, token_elements}
 use Rattle.signature_model.specs.Faults.{ShapeFault, first_fault, of_line}
 use Rattle.signature_model.specs.Faults as words
-use Rattle.signature_model.specs.Holding.{Slot, one, at_most_one, any_number, one_or_more, lacks_one, first_misfit, misfits, lacking, further, not_one, without_attribute, with_stray_text, without_octets, without_text}
-use Rattle.signature_model.specs.Shape.{or_first, points_to, id_of, parts_line, info_line, form_line, method_line, reference_line, qualifying_line, properties_line, covered_line, signed_line, data_object_line, key_line, value_line, stamp_line, values_line, shape_faults}
+use Rattle.signature_model.specs.Holding.{Slot, one, at_most_one, any_number, one_or_more, lacks_one, first_misfit, misfits, lacking, further, not_one, without_attribute, with_stray_text, without_octets, without_text, without_value}
+use Rattle.signature_model.specs.Shape.{or_first, points_to, id_of, parts_line, info_line, form_line, method_line, reference_line, qualifying_line, properties_line, covered_line, signed_line, data_object_line, key_line, value_line, stamp_line, values_line, shape_faults, is_in_stamp}
 use Rattle.signature_model.proofs.Lists.{not_both, neither}
 use Rattle.qualifying_props.specs.Nodes.{IsShaped}
 use Rattle.qualifying_props.specs.PartsOf.{cert_method}
 
 -- Lists.
 
-not_nothing : {A : Type 0} (x : A) (xs : List A) → x ∷ xs ≡ [] → ⊥
+pub not_nothing : {A : Type 0} (x : A) (xs : List A) → x ∷ xs ≡ [] → ⊥
 not_nothing x xs e = not_both (sym (ap is_empty e))
 
-front_nothing : {A : Type 0} (xs ys : List A) → xs ++ ys ≡ [] → xs ≡ []
+pub front_nothing : {A : Type 0} (xs ys : List A) → xs ++ ys ≡ [] → xs ≡ []
 front_nothing [] ys e = refl
 front_nothing (x ∷ xs) ys e = absurd (not_nothing x (xs ++ ys) e)
 
-behind_nothing : {A : Type 0} (xs ys : List A) → xs ++ ys ≡ [] → ys ≡ []
+pub behind_nothing : {A : Type 0} (xs ys : List A) → xs ++ ys ≡ [] → ys ≡ []
 behind_nothing [] ys e = e
 behind_nothing (x ∷ xs) ys e = absurd (not_nothing x (xs ++ ys) e)
 
-map_nothing : {A B : Type 0} (f : A → B) (xs : List A) → map f xs ≡ [] → xs ≡ []
+pub map_nothing : {A B : Type 0} (f : A → B) (xs : List A) → map f xs ≡ [] → xs ≡ []
 map_nothing f [] e = refl
 map_nothing f (x ∷ xs) e = absurd (not_nothing (f x) (map f xs) e)
 
-true_of_not : (b : Bool) → not b ≡ false → b ≡ true
+pub true_of_not : (b : Bool) → not b ≡ false → b ≡ true
 true_of_not true e = refl
 true_of_not false e = absurd (not_both e)
 
@@ -75,6 +75,7 @@ record Lines (document : Nodes) (signature : Spot) : Type 0 where
   qualifying : qualifying_line document signature ≡ []
   properties : properties_line document signature ≡ []
   signed : signed_line document signature ≡ []
+  stamp : stamp_line document signature ≡ []
 
 none_first : (faults : List ShapeFault) → first_fault faults ≡ None → faults ≡ []
 none_first [] e = refl
@@ -101,6 +102,7 @@ lines_of document s e =
       qualifying = map_nothing _ (qualifying_line document s) (behind_nothing _ (of_line words.Qualifying (qualifying_line document s)) to_qualifying);
       properties = map_nothing _ (properties_line document s) (behind_nothing _ (of_line words.Properties (properties_line document s)) to_properties);
       signed = map_nothing _ (signed_line document s) (behind_nothing _ (of_line words.Signed (signed_line document s)) to_signed);
+      stamp = map_nothing _ (stamp_line document s) (behind_nothing _ (of_line words.Stamp (stamp_line document s)) to_stamp);
     }
 
 lines : (document : Nodes) (signature : Spot) → IsShaped document signature → Lines document signature
@@ -227,6 +229,18 @@ has_host document signature h =
     last_there : (spots : List Spot) (spot : Spot) → is_empty (spots ++ spot ∷ []) ≡ false
     last_there [] spot = refl
     last_there (x ∷ spots) spot = refl
+
+-- The token of each time-stamp.
+
+pub no_stamp_lacks : (document : Nodes) (signature : Spot) → IsShaped document signature
+    → filter (λ stamp. is_empty (token_elements document stamp)) (stamps document signature) ≡ []
+no_stamp_lacks document signature h =
+    let holders : List Spot = stamps document signature in
+    let to_others = front_nothing _ (without_value document (flat_map (λ holder. first (token_elements document holder)) holders)) (lines document signature h).stamp in
+    let to_tokens = front_nothing _ (paths (filter (λ child. not (is_in_stamp child)) (flat_map (elements_in document) holders))) to_others in
+    let tokens = behind_nothing (with_stray_text document holders ++ further document (ds (codes "CanonicalizationMethod")) holders) _ to_tokens in
+    map_nothing (λ spot. spot.path) (filter (λ stamp. is_empty (token_elements document stamp)) holders)
+    (front_nothing (lacking document (xades (codes "EncapsulatedTimeStamp")) holders) (further document (xades (codes "EncapsulatedTimeStamp")) holders) tokens)
 
 -- The digest of the first Cert.
 

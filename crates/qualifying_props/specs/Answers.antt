@@ -12,6 +12,7 @@ use Rattle.qualifying_props.specs.Begins.{begins_at}
 use Rattle.qualifying_props.specs.PartsOf.{AreParts}
 use Rattle.qualifying_props.specs.Shown.{Shown}
 use Rattle.qualifying_props.specs.Whole.{is_whole}
+use Rattle.qualifying_props.specs.Wholes.{AreWhole}
 
 -- the answer is one that gives a place, and the element there begins at a byte
 abbrev pub IsPlaced : Doc → (Path → Answer) → ℕ → Answer → Type 0
@@ -26,7 +27,7 @@ IsFault doc found (faults.Include at) = IsPlaced doc Include at found
 IsFault doc found (faults.PropertyData at) = IsPlaced doc PropertyData at found
 IsFault doc found faults.OutOfMemory = Unit {0}
 
--- the parts are those of the signature that is read, or the fault is the answer
+-- the parts are those of the signature that is read, and whole objects; or the fault is the answer
 abbrev pub IsAnswer : Doc → Result Shown PartFault → Type 0
-IsAnswer doc (Ok parts) = (answer is_whole (document_in doc) ≡ Read (spot_of doc parts.signature)) × AreParts doc parts
+IsAnswer doc (Ok parts) = (answer is_whole (document_in doc) ≡ Read (spot_of doc parts.signature)) × AreParts doc parts × AreWhole parts
 IsAnswer doc (Err fault) = IsFault doc (answer is_whole (document_in doc)) fault

@@ -8,8 +8,8 @@ use Rattle.signature_model.specs.Parts.{Datum, octets_or_none}
 use Rattle.signature_model.specs.Readable.{is_bad}
 use Rattle.signature_model.specs.Spots.{Spot, called, called_in, elements_in}
 use Rattle.signature_model.specs.Vocabulary.{xades}
-use Rattle.signature_shape.specs.declared.places.FirstPlace.{FirstPlace}
-use Rattle.signature_shape.specs.Places.{Adds}
+use Rattle.signature_parts.specs.declared.places.FirstPlace.{FirstPlace}
+use Rattle.signature_parts.specs.Places.{Adds}
 use Rattle.qualifying_props.specs.declared.kinds.DatumKind.{DatumKind}
 use Rattle.qualifying_props.specs.declared.kinds.DatumKind.TheVariants.{Certificate, RevocationList, Token}
 use Rattle.qualifying_props.specs.Whole.{is_whole}

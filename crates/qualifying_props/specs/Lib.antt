@@ -5,6 +5,7 @@ pub mod Digests
 pub mod Shown
 pub mod PartsOf
 pub mod Properties
+pub mod Wholes
 pub mod Nodes
 pub mod Collected
 pub mod Answers

@@ -9,7 +9,7 @@ use Rattle.signature_model.specs.Faults.{first_fault}
 use Rattle.signature_model.specs.Parts as model
 use Rattle.signature_model.specs.Shape.{shape_faults}
 use Rattle.signature_model.specs.Spots.{Spot}
-use Rattle.signature_shape.specs.Parts.{IsPart}
+use Rattle.signature_parts.specs.Parts.{IsPart}
 use Rattle.qualifying_props.specs.declared.nodes.PartNodes.{PartNodes}
 
 -- the signature has no fault in its shape

@@ -8,8 +8,8 @@ use Rattle.doc_spans.specs.Seen.{document_in}
 use Rattle.signature_elements.specs.Standing.{spot_of, IsThere}
 use Rattle.signature_model.specs.Parts as model
 use Rattle.signature_model.specs.Spots.{Spot, attribute}
-use Rattle.signature_shape.specs.Kinds.{kind_in}
-use Rattle.signature_shape.specs.Parts.{IsPart}
+use Rattle.signature_parts.specs.Kinds.{kind_in}
+use Rattle.signature_parts.specs.Parts.{IsPart}
 use Rattle.qualifying_props.specs.Data.{all_octets}
 use Rattle.qualifying_props.specs.Digests as digests
 use Rattle.qualifying_props.specs.Digests.{algorithm, has_digest}

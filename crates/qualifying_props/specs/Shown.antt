@@ -3,7 +3,7 @@ use Rattle.std.specs.Prelude.{ℕ, Bool, List, [], Option, option_and_then, slic
 use Rattle.std.specs.Option.{option_map_or}
 use Rattle.algorithms.specs.declared.digest_kinds.DigestKind.{DigestKind}
 use Rattle.doc_spans.specs.declared.documents.NodeId.{NodeId}
-use Rattle.signature_shape.specs.declared.kinds.PropertyKind.{PropertyKind}
+use Rattle.signature_parts.specs.declared.kinds.PropertyKind.{PropertyKind}
 
 -- an unsigned property: its token, where it is a time-stamp, and else its certificates and CRLs
 pub record ShownProperty : Type 0 where

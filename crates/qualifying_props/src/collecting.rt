@@ -22,7 +22,7 @@ use crate::property::read_properties;
 use crate::signer::signing_cert;
 use crate::values::read_key_certs;
 use doc_spans::{Doc, NodeId};
-use signature_shape::{FirstPlace, certificate_digest, digest_value, value};
+use signature_parts::{FirstPlace, certificate_digest, digest_value, value};
 use std::alloc::Global;
 use xa_io::{Octs, OutOfMemory};
 

@@ -5,11 +5,11 @@ ghost use Rattle.doc_spans.specs.Seen.{document_in};
 ghost use Rattle.signature_elements.specs.Standing.{spot_of, IsThere};
 ghost use Rattle.signature_model.specs.Parts.{includes};
 ghost use Rattle.signature_model.specs.Spots.{paths};
-ghost use Rattle.signature_shape.specs.Places.{IsFirst};
+ghost use Rattle.signature_parts.specs.Places.{IsFirst};
 
 use doc_spans::{Doc, NodeId};
 use signature_elements::{called, xades};
-use signature_shape::{FirstPlace, StampElements};
+use signature_parts::{FirstPlace, StampElements};
 
 // The first `Include` of a signature's time-stamps.
 pub(crate) fn first_include(doc: Doc<'_>, signature: NodeId) -> FirstPlace

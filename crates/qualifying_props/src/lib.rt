@@ -21,8 +21,6 @@ pub use decoding::octets_or_none;
 pub use faults::PartFault;
 pub use parts::SignatureParts;
 pub use read::read_signature;
-pub use signature_shape::{PropertyKind, What};
+pub use signature_parts::PropertyKind;
+pub use signature_shape::What;
 pub use signer::has_digest;
-
-#[cfg(test)]
-mod tests;

@@ -7,7 +7,7 @@ ghost use Rattle.signature_model.specs.Parts.{references, other_objects, has_val
 ghost use Rattle.qualifying_props.specs.PartsOf.{AreElements};
 
 use doc_spans::{Doc, NodeId};
-use signature_shape::{is_qualifying, is_values, objects, properties, references};
+use signature_parts::{is_qualifying, is_values, objects, properties, references};
 use std::alloc::Global;
 use xa_io::OutOfMemory;
 

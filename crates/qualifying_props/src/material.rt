@@ -4,14 +4,14 @@ ghost use Rattle.std.specs.Prelude.{flat_map, OnOk};
 ghost use Rattle.doc_spans.specs.Seen.{document_in};
 ghost use Rattle.signature_elements.specs.Standing.{spot_of, IsThere};
 ghost use Rattle.signature_model.specs.Parts.{data_of_values, values_of};
-ghost use Rattle.signature_shape.specs.Places.{IsWithin};
+ghost use Rattle.signature_parts.specs.Places.{IsWithin};
 ghost use Rattle.qualifying_props.specs.Data.{inner_data, lists_of, Reads};
 
 use crate::kinds::DatumKind;
 use crate::values::read_elements;
 use doc_spans::{Doc, NodeId};
 use signature_elements::{called, elements, xades};
-use signature_shape::{FirstPlace, is_certificate_values, is_validation_data, is_values};
+use signature_parts::{FirstPlace, is_certificate_values, is_validation_data, is_values};
 use std::alloc::Global;
 use xa_io::{Octs, OutOfMemory};
 

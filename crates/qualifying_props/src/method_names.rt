@@ -10,7 +10,7 @@ ghost use Rattle.qualifying_props.specs.PartsOf.{name_in};
 
 use doc_spans::{Doc, NodeId, Piece, Pieces};
 use signature_elements::attribute;
-use signature_shape::signature_method;
+use signature_parts::signature_method;
 use std::alloc::Global;
 use xa_io::OutOfMemory;
 

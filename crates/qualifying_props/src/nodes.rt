@@ -4,14 +4,16 @@ ghost use Rattle.std.specs.Prelude.{◌≡◌, Some, option_map};
 ghost use Rattle.doc_spans.specs.Seen.{Has, document_in};
 ghost use Rattle.signature_elements.specs.Standing.{spot_of, IsThere};
 ghost use Rattle.signature_model.specs.Parts as model;
-ghost use Rattle.signature_shape.specs.Digests.{digest_in};
-ghost use Rattle.signature_shape.specs.Parts.{IsPart};
+ghost use Rattle.signature_elements.specs.DigestKinds.{kind_in};
+ghost use Rattle.signature_parts.specs.Parts.{IsPart};
 ghost use Rattle.qualifying_props.specs.Digests.{algorithm};
 ghost use Rattle.qualifying_props.specs.PartsOf.{cert_method};
 ghost use Rattle.qualifying_props.specs.Nodes.{AreNodes, IsShaped};
 
+use algorithms::DigestKind;
 use doc_spans::{Doc, NodeId};
-use signature_shape::{
+use signature_elements::digest_kind;
+use signature_parts::{
     certificate_digest, digest_method, key_info, method, qualifying, signed_info, unsigned,
     unsigned_signature, value,
 };
@@ -58,24 +60,20 @@ pub(crate) fn part_nodes(doc: Doc<'_>, signature: NodeId) -> PartNodes
 }
 
 // The digest algorithm of the first Cert, by its name.
-fn named_kind(doc: Doc<'_>, signature: NodeId) -> signature_shape::DigestKind
+fn named_kind(doc: Doc<'_>, signature: NodeId) -> DigestKind
     requires there { IsThere doc signature }
     requires shaped { IsShaped (document_in doc) (spot_of doc signature) }
-    ensures { model.digest_kind (cert_method (document_in doc.entry) (spot_of doc.entry signature)) ≡ Some (digest_in result) }
+    ensures { model.digest_kind (cert_method (document_in doc.entry) (spot_of doc.entry signature)) ≡ Some (kind_in result) }
 {
     let method = digest_method(doc, certificate_digest(doc, signature)).unwrap();
-    signature_shape::digest_kind(doc, method).unwrap()
+    digest_kind(doc, method).unwrap()
 }
 
 // The digest algorithm of the first Cert.
-pub(crate) fn cert_digest_kind(doc: Doc<'_>, signature: NodeId) -> algorithms::DigestKind
+pub(crate) fn cert_digest_kind(doc: Doc<'_>, signature: NodeId) -> DigestKind
     requires there { IsThere doc signature }
     requires shaped { IsShaped (document_in doc) (spot_of doc signature) }
     ensures { option_map algorithm (model.digest_kind (cert_method (document_in doc.entry) (spot_of doc.entry signature))) ≡ Some result }
 {
-    match named_kind(doc, signature) {
-        signature_shape::DigestKind::Sha256 => algorithms::DigestKind::Sha256,
-        signature_shape::DigestKind::Sha384 => algorithms::DigestKind::Sha384,
-        signature_shape::DigestKind::Sha512 => algorithms::DigestKind::Sha512,
-    }
+    named_kind(doc, signature)
 }

@@ -9,7 +9,7 @@ use crate::nodes::PartNodes;
 use crate::property::Property;
 use algorithms::DigestKind;
 use doc_spans::NodeId;
-use signature_shape::PropertyKind;
+use signature_parts::PropertyKind;
 use std::marker::Model;
 use xa_io::Octs;
 

@@ -5,7 +5,7 @@ ghost use Rattle.doc_spans.specs.Seen.{document_in};
 ghost use Rattle.signature_elements.specs.Standing.{spot_of, IsThere};
 ghost use Rattle.signature_model.specs.Parts as model;
 ghost use Rattle.signature_model.specs.Spots.{first};
-ghost use Rattle.signature_shape.specs.Places.{Adds, IsWithin};
+ghost use Rattle.signature_parts.specs.Places.{Adds, IsWithin};
 ghost use Rattle.qualifying_props.specs.Data.{bad_places};
 ghost use Rattle.qualifying_props.specs.PartsOf.{AreProperties};
 ghost use Rattle.qualifying_props.specs.Properties.{shown_property, IsOf};
@@ -14,7 +14,7 @@ use crate::kinds::DatumKind;
 use crate::material::read_material;
 use crate::values::read_datum;
 use doc_spans::{Doc, NodeId};
-use signature_shape::{FirstPlace, PropertyKind, is_stamp, kind_of, properties, token_element};
+use signature_parts::{FirstPlace, PropertyKind, is_stamp, kind_of, properties, token_element};
 use std::alloc::Global;
 use xa_io::{Octs, OutOfMemory};
 

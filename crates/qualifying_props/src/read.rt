@@ -65,7 +65,7 @@ fn read_parts(alloc: Global, doc: Doc<'_>, signature: NodeId) -> Result<Signatur
     collect(alloc, doc, signature)
 }
 
-/// The one signature of a document with its parts.
+/// The one signature of a document with its parts, whose certificates, CRLs and tokens are whole objects of their kinds.
 ///
 /// Signatures are elements `Signature` of XML Signature that have no such element around them. Err: the first of these that holds: there is
 /// none; there are several; its shape is broken, at the first element where it is, and of several lines there the first; a time-stamp has

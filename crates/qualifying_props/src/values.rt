@@ -6,7 +6,7 @@ ghost use Rattle.doc_spans.specs.Seen.{document_in};
 ghost use Rattle.signature_elements.specs.NamedLeft.{called_doc, called_left};
 ghost use Rattle.signature_elements.specs.Standing.{spot_of, IsThere};
 ghost use Rattle.signature_model.specs.Parts.{as_kind, key_certificates, Certificate};
-ghost use Rattle.signature_shape.specs.Places.{Adds, IsWithin};
+ghost use Rattle.signature_parts.specs.Places.{Adds, IsWithin};
 ghost use Rattle.qualifying_props.specs.Data.{datum_kind, octets_of, bad_places, Reads};
 
 use crate::decoding::decode;
@@ -14,7 +14,7 @@ use crate::kinds::{DatumKind, is_whole};
 use base64_texts::Base64Fault;
 use doc_spans::{Doc, NodeId};
 use signature_elements::{NamedElements, called, ds};
-use signature_shape::{FirstPlace, key_data};
+use signature_parts::{FirstPlace, key_data};
 use std::alloc::Global;
 use xa_io::{Octs, OutOfMemory};
 

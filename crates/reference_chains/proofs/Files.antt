@@ -2,8 +2,9 @@
 use Rattle.std.proofs.Common.{◌≡◌, ℕ, Bool, true, false, cond, List, [], ◌∷◌, ◌++◌, Option, Some, None, refl, string_bytes}
 use Rattle.std.specs.Str.{chars}
 use Rattle.document_model.specs.Characters.{◌is◌}
+use Rattle.document_model.specs.Items.{or_else}
 use Rattle.reference_chains.specs.declared.externals.File.{File}
-use Rattle.reference_chains.specs.HandedIn.{look_up, one_more, or_else}
+use Rattle.reference_chains.specs.HandedIn.{look_up, one_more}
 
 one_further : (b : Bool) (octets : List ℕ) (rest more last : Option (List ℕ)) → more ≡ or_else rest last → cond b (Some octets) more ≡ or_else (cond b (Some octets) rest) last
 one_further true octets rest more last e = refl

@@ -1,20 +1,15 @@
 -- Names that texts are compared with.
 use Rattle.std.proofs.Common.{◌≡◌, ℕ, Bool, true, false, cond, List, [], ◌∷◌, Option, Some, None, is_some, length, refl, sym, ◌∙◌, ap}
-use Rattle.std.proofs.lemmas.Str.{chars-IsAscii, chars-nil}
+use Rattle.std.proofs.lemmas.Str.{chars-nil}
 use Rattle.std.specs.Option.{option_map_or}
 use Rattle.std.specs.Prelude.{unwrap_or, option_map}
 use Rattle.std.specs.Str.{chars}
 use Rattle.document_model.specs.Characters.{◌is◌}
 use Rattle.document_model.specs.Canonical.{Form}
-use Rattle.xml_items.proofs.AsciiTexts.{ascii_from}
 use Rattle.xml_items.specs.Texts.{is_ascii}
-use Rattle.signature_model.specs.Vocabulary.{DigestKind, Sha256, Sha384, Sha512}
+use Rattle.signature_elements.proofs.AsciiNames.{word}
 use Rattle.signature_model.specs.Chains.{Transform, Enveloped, Canonical, Base64, Other}
 use Rattle.signature_model.specs.Parts.{plain_form}
-
--- the characters of an ASCII text
-pub word : (text : List ℕ) → is_ascii text ≡ true → chars text ≡ text
-word text h = chars-IsAscii text (ascii_from text h)
 
 -- whether the characters are those of a name, of which a text was compared
 pub is_name : (cs text given : List ℕ) (result b : Bool) → is_ascii text ≡ true → given ≡ text → result ≡ (cs is chars given) → result ≡ b → (cs is text) ≡ b
@@ -24,11 +19,7 @@ pub no_characters : (text : List ℕ) → length text ≡ 0 → chars text ≡ [
 no_characters [] h = chars-nil
 no_characters (c ∷ cs) h = cc
 
--- the digest by which of the three names it is
-abbrev pub digest_by : Bool → Bool → Bool → Option DigestKind
-digest_by a b c = cond a (Some Sha256) (cond b (Some Sha384) (cond c (Some Sha512) None))
-
--- and the transform by which of the two
+-- the transform by which of the two names it is
 abbrev pub transform_by : Bool → Bool → Option Form → Transform
 transform_by a b form = cond a Enveloped (cond b Base64 (option_map_or (λ f. Canonical f) form Other))
 

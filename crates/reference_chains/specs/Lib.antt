@@ -2,8 +2,6 @@ pub mod HandedIn
 pub mod Places
 pub mod ChainsIn
 pub mod ChainSteps
-pub mod DigestKinds
 pub mod References
 pub mod SetTexts
 pub mod Decoding
-pub mod Taken

@@ -17,7 +17,7 @@ use doc_spans::{Doc, NodeId};
 use signature_elements::{called, ds, elements};
 
 /// What a chain of transforms makes of nodes, or of octets that are handed in.
-#[derive(Clone, Copy, Debug, PartialEq, Eq)]
+#[derive(Clone, Copy)]
 pub enum Made {
     /// The same.
     NodesAlone,
@@ -29,7 +29,7 @@ pub enum Made {
 
 /// A chain of transforms (XML Signature 1.1, section 4.4.3.4). Which lists of transforms are chains is this project's own choice: at most
 /// the enveloped signature transform, and then at most one canonical form or base64.
-#[derive(Clone, Copy, Debug, PartialEq, Eq)]
+#[derive(Clone, Copy)]
 pub struct Chain {
     /// Whether the signature that holds the Reference is taken away first (section 6.6.4).
     pub enveloped: bool,

@@ -1,6 +1,6 @@
 //! Octets that are handed in for external References.
 
-ghost use Rattle.std.specs.Prelude.{◌≡◌, ℕ, List, None, OnOk, OnErr};
+ghost use Rattle.std.specs.Prelude.{◌≡◌, ◌≤◌, ℕ, List, None, IsOk, IsSome, OnOk, OnErr, length};
 ghost use Rattle.std.specs.Option.{option_copied};
 ghost use Rattle.std.specs.Str.{chars};
 ghost use Rattle.doc_spans.specs.Pieces.{characters_left};
@@ -36,11 +36,17 @@ impl Externals {
     }
 
     #[tactic(auto, using(crate::proofs::Files::appended))]
-    /// Hands in octets under a name, unless it has some already. After `OutOfMemory` the same is handed in as before.
+    /// Hands in octets under a name, 33,554,432 at most. Where it has some already, they stay: the answer is Ok, all is as it was, and it
+    /// takes no memory. After `OutOfMemory` the same is handed in as before.
     pub fn add(&mut self, name: &str, octets: Octs) -> Result<(), OutOfMemory>
+        requires size { length octets ≤ 33554432 }
         ensures ok { OnOk result ((other : List ℕ) → handed_in self.new other ≡ one_more (handed_in self.old) (chars name.now) octets other) }
+        ensures there { IsSome (handed_in self.old (chars name.now)) → IsOk result × (self.new ≡ self.old) }
         ensures err { OnErr result ((other : List ℕ) → handed_in self.new other ≡ handed_in self.old other) }
     {
+        if self.get(name).is_some() {
+            return Ok(());
+        }
         let Ok(name) = String::from_str(self.alloc, name) else {
             return Err(OutOfMemory);
         };

@@ -23,6 +23,3 @@ pub use handing::handed_to;
 pub use octets::octets_of;
 pub use places::{Place, place_of, uri_of};
 pub use references::{Reference, is_reached, node_set_of};
-
-#[cfg(test)]
-mod tests;

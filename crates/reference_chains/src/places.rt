@@ -20,7 +20,7 @@ use xa_io::OutOfMemory;
 use xml_items::classes::first;
 
 /// What the URI of a Reference names (XML Signature 1.1, sections 4.4.3.1 and 4.4.3.3).
-#[derive(Clone, Copy, Debug, PartialEq, Eq)]
+#[derive(Clone, Copy)]
 pub enum Place {
     /// The document: the URI is empty, or there is none.
     Document,

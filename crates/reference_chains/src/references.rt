@@ -16,7 +16,7 @@ use doc_spans::{Doc, NodeId};
 use node_sets::{IdAnswer, NodeSet};
 
 /// A Reference of a signature, with what its URI names and the chain of its transforms.
-#[derive(Clone, Copy, Debug, PartialEq, Eq)]
+#[derive(Clone, Copy)]
 pub struct Reference {
     /// The element.
     pub node: NodeId,

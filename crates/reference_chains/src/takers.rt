@@ -27,8 +27,7 @@ pub(crate) trait TakesText {
 }
 
 impl TakesText for Scanner {
-    ghost use Rattle.base64_texts.specs.Scans.{scan_on};
-    ghost use Rattle.reference_chains.specs.Taken.{scan_joined};
+    ghost use Rattle.base64_texts.specs.Scans.{scan_on, scan_on-append};
 
     type Fault = Infallible;
 
@@ -36,7 +35,7 @@ impl TakesText for Scanner {
 
     ghost stays = { λ taker. refl };
 
-    ghost joined = { scan_joined };
+    ghost joined = { scan_on-append };
 
     fn take(&mut self, piece: Piece<'_>) -> Result<(), Infallible> {
         match piece {
@@ -48,8 +47,7 @@ impl TakesText for Scanner {
 }
 
 impl TakesText for Decoder {
-    ghost use Rattle.base64_texts.specs.Readings.{read_on};
-    ghost use Rattle.reference_chains.specs.Taken.{read_joined};
+    ghost use Rattle.base64_texts.specs.Readings.{read_on, read_on-append};
 
     type Fault = OutOfMemory;
 
@@ -57,7 +55,7 @@ impl TakesText for Decoder {
 
     ghost stays = { λ taker. refl };
 
-    ghost joined = { read_joined };
+    ghost joined = { read_on-append };
 
     fn take(&mut self, piece: Piece<'_>) -> Result<(), OutOfMemory> {
         match piece {

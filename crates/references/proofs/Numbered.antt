@@ -6,7 +6,6 @@ use Rattle.std.proofs.lemmas.Result.{IfOk-weaker}
 use Rattle.std.specs.Prelude.{option_map, slice_get, IfOk, Result}
 use Rattle.std.specs.List.{All}
 use Rattle.algorithms.specs.declared.digest_kinds.DigestKind.{DigestKind}
-use Rattle.algorithms.specs.declared.digest_kinds.DigestKind.TheVariants.{Sha256, Sha384, Sha512}
 use Rattle.algorithms.specs.Digests.{digest_of}
 use Rattle.document_model.specs.Characters.{◌is◌}
 use Rattle.document_model.specs.Tree.{Path}
@@ -18,9 +17,10 @@ use Rattle.signature_model.specs.Chains.{Handed}
 use Rattle.signature_model.specs.Octets.{digest_octets}
 use Rattle.signature_model.specs.Parts as model
 use Rattle.signature_model.specs.Spots.{Spot}
+use Rattle.qualifying_props.proofs.Signing.{algorithm_is}
 use Rattle.qualifying_props.specs.Digests.{algorithm, digest, has_digest}
 use Rattle.reference_chains.specs.declared.references.Reference.{Reference}
-use Rattle.reference_chains.specs.DigestKinds.{kind_in}
+use Rattle.signature_elements.specs.DigestKinds.{kind_in}
 use Rattle.reference_chains.specs.References.{IsReference}
 use Rattle.references.specs.declared.rows.Row.{Row}
 use Rattle.references.specs.Digests.{has_its_digest}
@@ -55,11 +55,6 @@ reference_spot doc refs i reference h e =
     spot_at doc refs i r.0 h r.1 ∙ ap (λ (q : Reference). Some (spot_of doc q.node)) r.2
 
 -- the digest by the algorithm that a kind names
-algorithm_is : (kind : DigestKind) → algorithm (kind_in kind) ≡ kind
-algorithm_is Sha256 = refl
-algorithm_is Sha384 = refl
-algorithm_is Sha512 = refl
-
 pub digest_is : (doc : Doc) (row : Row) (handed : Handed) (signature : Path) (octets : List ℕ) → IsRow doc row
     → digest_octets handed (document_in doc) signature (spot_of doc row.reference.node) ≡ octets
     → has_its_digest handed (document_in doc) signature (spot_of doc row.reference.node) ≡ has_digest row.kind row.value octets

@@ -7,7 +7,7 @@ use Rattle.doc_spans.specs.Seen.{document_in}
 use Rattle.signature_elements.specs.Standing.{spot_of, IsThere}
 use Rattle.signature_model.specs.Spots.{Spot}
 use Rattle.signature_model.specs.Parts.{references, digest_kind, digest_methods, digest_values, octets_or_none}
-use Rattle.reference_chains.specs.DigestKinds.{kind_in}
+use Rattle.signature_elements.specs.DigestKinds.{kind_in}
 use Rattle.reference_chains.specs.References.{IsReference}
 use Rattle.qualifying_props.specs.Shown as parts
 use Rattle.references.specs.declared.rows.Row.{Row}

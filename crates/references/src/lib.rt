@@ -19,6 +19,3 @@ pub use made_octets::octets;
 pub use read::read_refs;
 pub use reference_chains::Externals;
 pub use rows::Refs;
-
-#[cfg(test)]
-mod tests;

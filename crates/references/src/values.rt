@@ -15,7 +15,7 @@ use crate::rows::Row;
 use doc_spans::{Doc, NodeId};
 use qualifying_props::octets_or_none;
 use reference_chains::{Reference, digest_kind_of};
-use signature_shape::digest_value;
+use signature_parts::digest_value;
 use std::alloc::Global;
 use xa_io::{Octs, OutOfMemory};
 

@@ -1,4 +1,5 @@
 pub mod Named
+pub mod AsciiNames
 pub mod Spotted
 pub mod Laws
 pub mod Texted

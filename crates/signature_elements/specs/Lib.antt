@@ -6,3 +6,4 @@ pub mod Holding
 pub mod TextsLeft
 pub mod Counts
 pub mod Ahead
+pub mod DigestKinds

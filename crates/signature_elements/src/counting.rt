@@ -10,7 +10,7 @@ use crate::names::{ds, is_called, is_element};
 use doc_spans::{Doc, NodeId};
 
 /// How many signatures a document has.
-#[derive(Clone, Copy, PartialEq, Eq, Debug)]
+#[derive(Clone, Copy)]
 pub enum SignatureCount {
     /// None.
     Nothing,

@@ -20,7 +20,7 @@ pub const XADES: &str = "http://uri.etsi.org/01903/v1.3.2#";
 pub const XADESV141: &str = "http://uri.etsi.org/01903/v1.4.1#";
 
 /// An expanded element name.
-#[derive(Clone, Copy, Debug, PartialEq, Eq)]
+#[derive(Clone, Copy)]
 pub struct ElementName<'n> {
     /// The namespace name, empty for none.
     pub space: &'n str,

@@ -1,23 +1,19 @@
 -- What the host holds once content is put last into it.
 use Rattle.std.proofs.Common.{◌≡◌, ℕ, zero, suc, List, [], ◌∷◌, ◌++◌, Option, Some, None, refl, sym, ◌∙◌, ap}
-use Rattle.std.proofs.lemmas.Option.{none-some}
+use Rattle.std.proofs.lemmas.Option.{none-some, same_Some}
 use Rattle.std.specs.Prelude.{option_and_then, option_map}
-use Rattle.std.specs.Option.{option_map_or}
 use Rattle.document_model.specs.Tree.{Node, Nodes, Path, Element, Text, Comment, Instruction, no_nodes, ◌⨾◌, nth, below, descend, joined, in_nth, with_last, IsElement, IsElementAt, put_last}
 use Rattle.document_model.specs.Scopes.{Tag}
 use Rattle.signature_model.specs.Spots.{Spot, emptied_all, held_in, held_at, elements_from, elements_in}
 use Rattle.signature_model.specs.Keeping.{IsSpot}
 
-nth_there : (k : ℕ) (change : Node → Node) (nodes : Nodes) → nth k (in_nth k change nodes) ≡ option_map change (nth k nodes)
+pub nth_there : (k : ℕ) (change : Node → Node) (nodes : Nodes) → nth k (in_nth k change nodes) ≡ option_map change (nth k nodes)
 nth_there k change no_nodes = none_there k
   where
     none_there : (k : ℕ) → nth k no_nodes ≡ None
     none_there k = refl
 nth_there zero change (node ⨾ nodes) = refl
 nth_there (suc k) change (node ⨾ nodes) = nth_there k change nodes
-
-some_same : {A : Type 0} (a b : A) → Some a ≡ Some b → a ≡ b
-some_same a b e = ap (λ o. option_map_or (λ x. x) o b) e
 
 abbrev Holds : Nodes → Node → Option Node → Type 0
 Holds added m o = held_in o ≡ emptied_all (joined (below m) added)
@@ -37,7 +33,7 @@ on_child added path m (Some node) there e = there node e
 below_there : (added : Nodes) (path : Path) (m : Node) → IsElement m → (node : Node) → descend path node ≡ Some m
     → Holds added m (descend path (with_last added path node))
 below_there added [] m i node e =
-    let same : node ≡ m = some_same node m e in
+    let same : node ≡ m = same_Some node m e in
     ap (λ n. held_in (Some (with_last added [] n))) same ∙ put_there added m i
 below_there added (k ∷ path) m i (Element name attributes nodes) e =
     ap (λ o. held_in (option_and_then (descend path) o)) (nth_there k (with_last added path) nodes)

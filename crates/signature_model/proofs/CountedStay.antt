@@ -1,6 +1,6 @@
 -- The counted signatures stay where content is put into one of them.
 use Rattle.std.proofs.Common.{◌≡◌, ℕ, zero, suc, Bool, true, false, cond, List, [], ◌∷◌, ◌++◌, Option, Some, None, refl, sym, ◌∙◌, ap, subst, inl, inr, ◌⊎◌, codes}
-use Rattle.std.proofs.lemmas.Option.{none-some}
+use Rattle.std.proofs.lemmas.Option.{none-some, same_Some}
 use Rattle.std.specs.Prelude.{option_and_then}
 use Rattle.std.specs.Option.{option_map_or}
 use Rattle.document_model.specs.Names.{Expanded, same_expanded}
@@ -22,16 +22,13 @@ when_true : {A : Type 0} (b : Bool) (x y z : A) → b ≡ true → cond b x y �
 when_true true x y z e = refl
 when_true false x y z e = absurd (subst (λ b. cond b ⊥ (Unit {0})) e tt)
 
-some_same : {A : Type 0} (a b : A) → Some a ≡ Some b → a ≡ b
-some_same a b e = ap (λ o. option_map_or (λ x. x) o b) e
-
 nodes_same : (name : Expanded) (change : Node → Node) (outer : List Tag) (c : Node)
     → ((path : Path) → outermost_in name path outer (change c) ≡ outermost_in name path outer c)
     → (path : Path) (k i : ℕ) (nodes : Nodes) → nth k nodes ≡ Some c → outermost name path outer i (in_nth k change nodes) ≡ outermost name path outer i nodes
 nodes_same name change outer c same path k i no_nodes e = refl
 nodes_same name change outer c same path zero i (node ⨾ nodes) e =
     let P : Node → Type 0 = λ n. outermost_in name (path ++ i ∷ []) outer (change n) ≡ outermost_in name (path ++ i ∷ []) outer n in
-    ap (λ spots. spots ++ outermost name path outer (suc i) nodes) (subst P (sym (some_same node c e)) (same (path ++ i ∷ [])))
+    ap (λ spots. spots ++ outermost name path outer (suc i) nodes) (subst P (sym (same_Some node c e)) (same (path ++ i ∷ [])))
 nodes_same name change outer c same path (suc k) i (node ⨾ nodes) e =
     ap (λ spots. outermost_in name (path ++ i ∷ []) outer node ++ spots) (nodes_same name change outer c same path k (suc i) nodes e)
 
@@ -53,7 +50,7 @@ node_same name added (k ∷ host) outer (Instruction target content) i path = re
 inside_down : (name : Expanded) (path : Path) (i : ℕ) (rest : Path) (node m : Node) (outer : List Tag) → descend path node ≡ Some m
     → same_expanded name (name_in (with_tag_of m (elements_down path node outer))) ≡ true → Inside name outer (path ++ i ∷ rest) node
 inside_down name [] i rest node m outer e n =
-    let P : Node → Type 0 = λ x. same_expanded name (name_in (with_tag_of x outer)) ≡ true in inl (subst P (sym (some_same node m e)) n)
+    let P : Node → Type 0 = λ x. same_expanded name (name_in (with_tag_of x outer)) ≡ true in inl (subst P (sym (same_Some node m e)) n)
 inside_down name (k ∷ path) i rest node m outer e n = on_option (λ c e' n'. inside_down name path i rest c m (with_tag_of node outer) e' n') (nth k (below node)) refl e n
   where
     on_option : ((c : Node) → descend path c ≡ Some m → same_expanded name (name_in (with_tag_of m (elements_down path c (with_tag_of node outer)))) ≡ true

@@ -1,7 +1,7 @@
 -- A signature is free again where its first property is put in: into UnsignedProperties or QualifyingProperties.
 use Rattle.std.proofs.Common.{◌≡◌, ℕ, suc, ◌+◌, Bool, true, false, cond, ◌||◌, List, [], ◌∷◌, ◌++◌, Option, Some, None, refl, sym, ◌∙◌, ap, subst, codes, arith, append_assoc, inl, inr, ◌⊎◌}
 use Rattle.std.proofs.lemmas.List.{append-nil}
-use Rattle.std.proofs.lemmas.Option.{none-some}
+use Rattle.std.proofs.lemmas.Option.{none-some, same_Some}
 use Rattle.std.specs.Prelude.{filter, option_and_then}
 use Rattle.std.specs.List.{list_any}
 use Rattle.std.specs.Option.{option_map_or}
@@ -111,15 +111,12 @@ held_new new m path name spots h = each_flat (NewBelow m path) (NewBelow m path)
 node_set_stands : (document : Nodes) (signature : Path) (reference : Spot) (set : NodeSet) → node_set document signature reference ≡ Some set → IsWholeOrElement document set.apex
 node_set_stands document signature reference set e = on_option (target_set document (place reference)) (target_stands document (place reference)) e
   where
-    some_same : {A : Type 0} (a b : A) → Some a ≡ Some b → a ≡ b
-    some_same a b e' = ap (λ o. option_map_or (λ x. x) o b) e'
-
     on_option : (o : Option NodeSet) → ((s : NodeSet) → o ≡ Some s → IsWholeOrElement document s.apex)
         → option_and_then (λ s. Some (less_taken signature s (chain document reference))) o ≡ Some set → IsWholeOrElement document set.apex
     on_option None w e' = absurd (none-some _ e')
     on_option (Some s) w e' =
         let P : NodeSet → Type 0 = λ x. IsWholeOrElement document x.apex in
-        subst P (some_same (less_taken signature s (chain document reference)) set e') (subst (IsWholeOrElement document) (sym (apex_less signature s (chain document reference))) (w s refl))
+        subst P (same_Some (less_taken signature s (chain document reference)) set e') (subst (IsWholeOrElement document) (sym (apex_less signature s (chain document reference))) (w s refl))
 
 new_unreached : (document : Nodes) (signature : Path) (reference host_spot spot : Spot) (m : Node) → node_at document host_spot.path ≡ Some m
     → is_reached document signature host_spot reference ≡ false → NewBelow m host_spot.path spot → is_reached document signature spot reference ≡ false

@@ -92,7 +92,7 @@ pick [] [] [] h e = absurd (no_first h e)
 
 -- The setting, for a host with one of the three names.
 
-setting_of : (document added : Nodes) (signature place : Spot) (host_name : Expanded) → IsSignature document signature → IsOther host_name → IsProperty host_name
+pub setting_of : (document added : Nodes) (signature place : Spot) (host_name : Expanded) → IsSignature document signature → IsOther host_name → IsProperty host_name
     → InnerNamed document signature host_name place → host document signature ≡ place ∷ [] → IsFree document signature → HasNoIdentifiers added
     → PropertySetting document added signature place host_name
 setting_of document added signature place host_name s other names i e free n = record {

@@ -8,7 +8,6 @@ pub mod ValueKept
 pub mod AtHost
 pub mod PropertyKept
 pub mod Hosts
-pub mod Same
 pub mod StandsAgain
 pub mod Plain
 pub mod ItemKept
@@ -22,9 +21,6 @@ pub mod ItemCounted
 pub mod FreeBelow
 pub mod FreeFirst
 pub mod StaysFree
-pub mod Examples
-mod Shapes
-mod Refs
-mod Items
-mod Digest
 pub mod FirstFaults
+pub mod TextLengths
+pub mod FaultPlaces

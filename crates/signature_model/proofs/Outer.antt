@@ -69,14 +69,14 @@ unsigned_stays document added signature place host_name s d dq =
     ∙ ap first (called_in_stay document added place (xades (codes "UnsignedProperties")) (qualifying document signature)
     (qualifying_apart document added signature place host_name s d dq))
 
-unsigned_apart : (document added : Nodes) (signature place : Spot) (host_name : Expanded) → Setting document added signature place host_name → IsInner host_name
+pub unsigned_apart : (document added : Nodes) (signature place : Spot) (host_name : Expanded) → Setting document added signature place host_name → IsInner host_name
     → Each (Apart document place) (unsigned document signature)
 unsigned_apart document added signature place host_name s d =
     each_first (Apart document place) _ (all_apart document place (xades (codes "UnsignedProperties")) host_name s.place_named d.unsigned _
     (called_in_named document (xades (codes "UnsignedProperties")) (qualifying document signature)
     (apart_stand document place _ (qualifying_apart document added signature place host_name s d.object d.qualifying))))
 
-list_stays : (document added : Nodes) (signature place : Spot) (host_name : Expanded) → Setting document added signature place host_name → IsInner host_name
+pub list_stays : (document added : Nodes) (signature place : Spot) (host_name : Expanded) → Setting document added signature place host_name → IsInner host_name
     → unsigned_signature (put_last added place.path document) signature ≡ unsigned_signature document signature
 list_stays document added signature place host_name s d =
     ap (λ spots. first (called_in (put_last added place.path document) (xades (codes "UnsignedSignatureProperties")) spots)) (unsigned_stays document added signature place host_name s d.object d.qualifying)

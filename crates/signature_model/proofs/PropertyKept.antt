@@ -40,7 +40,7 @@ subtree_stays form document added place p spot b =
     ap encode_utf8_all ((keeps_texts (subtree spot.path) document added place.path p.element
     (whole_or_element document spot.path b.stands.element) (off (is_within spot.path place.path) true true b.beside)).1 form)
 
-joined_stay : (form : Form) (document added : Nodes) (place : Spot) → IsSpot document place → (spots : List Spot) → Each (Beside document place) spots
+pub joined_stay : (form : Form) (document added : Nodes) (place : Spot) → IsSpot document place → (spots : List Spot) → Each (Beside document place) spots
     → joined_octets form (put_last added place.path document) spots ≡ joined_octets form document spots
 joined_stay form document added place p spots b =
     flat_same (Beside document place) (subtree_octets form (put_last added place.path document)) (subtree_octets form document) spots (subtree_stays form document added place p) b
@@ -137,12 +137,12 @@ other_objects_stay document added signature place host_name s =
 
 -- Forms and base64 of first elements.
 
-form_or_stays : (form : Form) (document added : Nodes) (place : Spot) (spots : List Spot) → Each (Apart document place) spots
+pub form_or_stays : (form : Form) (document added : Nodes) (place : Spot) (spots : List Spot) → Each (Apart document place) spots
     → form_or form (put_last added place.path document) spots ≡ form_or form document spots
 form_or_stays form document added place [] a = refl
 form_or_stays form document added place (spot ∷ spots) a = ap (λ o. unwrap_or o form) (form_stays document added place spot a.0)
 
-octets_or_none_stay : (document added : Nodes) (place : Spot) (spots : List Spot) → Each (Apart document place) spots
+pub octets_or_none_stay : (document added : Nodes) (place : Spot) (spots : List Spot) → Each (Apart document place) spots
     → octets_or_none (put_last added place.path document) spots ≡ octets_or_none document spots
 octets_or_none_stay document added place [] a = refl
 octets_or_none_stay document added place (spot ∷ spots) a = ap (λ text. unwrap_or (skipping text) []) (text_stays document added place spot a.0)
@@ -152,25 +152,25 @@ octets_or_none_stay document added place (spot ∷ spots) a = ap (λ text. unwra
 value_named : (document : Nodes) (signature : Spot) → IsSpot document signature → Each (IsNamed document (ds (codes "SignatureValue"))) (value document signature)
 value_named document signature s = each_first (IsNamed document (ds (codes "SignatureValue"))) _ (called_named document (ds (codes "SignatureValue")) signature s)
 
-value_apart : (document added : Nodes) (signature place : Spot) (host_name : Expanded) → PropertySetting document added signature place host_name
+pub value_apart : (document added : Nodes) (signature place : Spot) (host_name : Expanded) → PropertySetting document added signature place host_name
     → Each (Apart document place) (value document signature)
 value_apart document added signature place host_name s =
     all_apart document place (ds (codes "SignatureValue")) host_name s.setting.place_named s.names.value _ (value_named document signature s.setting.signature_named.stands)
 
-value_stays : (document added : Nodes) (signature place : Spot) (host_name : Expanded) → PropertySetting document added signature place host_name
+pub value_stays : (document added : Nodes) (signature place : Spot) (host_name : Expanded) → PropertySetting document added signature place host_name
     → value (put_last added place.path document) signature ≡ value document signature
 value_stays document added signature place host_name s =
     ap first (called_stay document added place (ds (codes "SignatureValue")) signature (signature_apart document added signature place host_name s.setting))
 
-key_info_stays : (document added : Nodes) (signature place : Spot) (host_name : Expanded) → PropertySetting document added signature place host_name
+pub key_info_stays : (document added : Nodes) (signature place : Spot) (host_name : Expanded) → PropertySetting document added signature place host_name
     → key_info (put_last added place.path document) signature ≡ key_info document signature
 key_info_stays document added signature place host_name s =
     ap first (called_stay document added place (ds (codes "KeyInfo")) signature (signature_apart document added signature place host_name s.setting))
 
-blank_stays : (document added : Nodes) (place spot : Spot) → Apart document place spot → is_blank (put_last added place.path document) spot ≡ is_blank document spot
+pub blank_stays : (document added : Nodes) (place spot : Spot) → Apart document place spot → is_blank (put_last added place.path document) spot ≡ is_blank document spot
 blank_stays document added place spot a = ap (λ text. is_empty (without_white text)) (text_stays document added place spot a)
 
-signed_stays : (document added : Nodes) (signature place : Spot) (host_name : Expanded) → PropertySetting document added signature place host_name
+pub signed_stays : (document added : Nodes) (signature place : Spot) (host_name : Expanded) → PropertySetting document added signature place host_name
     → is_signed (put_last added place.path document) signature ≡ is_signed document signature
 signed_stays document added signature place host_name s =
     let new : Nodes = put_last added place.path document in
@@ -178,7 +178,7 @@ signed_stays document added signature place host_name s =
     ∙ any_same (Apart document place) (λ spot. not (is_blank new spot)) (λ spot. not (is_blank document spot)) (value document signature)
     (λ spot a. ap not (blank_stays document added place spot a)) (value_apart document added signature place host_name s)
 
-value_bytes_stay : (document added : Nodes) (signature place : Spot) (host_name : Expanded) → PropertySetting document added signature place host_name
+pub value_bytes_stay : (document added : Nodes) (signature place : Spot) (host_name : Expanded) → PropertySetting document added signature place host_name
     → parts.value_octets (put_last added place.path document) signature ≡ parts.value_octets document signature
 value_bytes_stay document added signature place host_name s =
     ap (octets_or_none (put_last added place.path document)) (value_stays document added signature place host_name s)
@@ -186,11 +186,11 @@ value_bytes_stay document added signature place host_name s =
 
 -- SignedInfo and its method.
 
-info_stays : (document added : Nodes) (signature place : Spot) (host_name : Expanded) → PropertySetting document added signature place host_name
+pub info_stays : (document added : Nodes) (signature place : Spot) (host_name : Expanded) → PropertySetting document added signature place host_name
     → signed_info (put_last added place.path document) signature ≡ signed_info document signature
 info_stays document added signature place host_name s = signed_info_stays document added place signature (signature_apart document added signature place host_name s.setting)
 
-method_stays : (document added : Nodes) (signature place : Spot) (host_name : Expanded) → PropertySetting document added signature place host_name
+pub method_stays : (document added : Nodes) (signature place : Spot) (host_name : Expanded) → PropertySetting document added signature place host_name
     → method (put_last added place.path document) signature ≡ method document signature
 method_stays document added signature place host_name s =
     let new : Nodes = put_last added place.path document in
@@ -199,7 +199,7 @@ method_stays document added signature place host_name s =
     (all_apart document place (ds (codes "SignedInfo")) host_name s.setting.place_named s.setting.other.signed_info _
     (signed_info_named document signature s.setting.signature_named.stands)))
 
-method_apart : (document added : Nodes) (signature place : Spot) (host_name : Expanded) → PropertySetting document added signature place host_name
+pub method_apart : (document added : Nodes) (signature place : Spot) (host_name : Expanded) → PropertySetting document added signature place host_name
     → Each (Apart document place) (method document signature)
 method_apart document added signature place host_name s =
     all_apart document place (ds (codes "CanonicalizationMethod")) host_name s.setting.place_named s.setting.other.method _
@@ -220,7 +220,7 @@ value_beside document added signature place host_name s = parts_beside document 
 key_beside : (document added : Nodes) (signature place : Spot) (host_name : Expanded) → PropertySetting document added signature place host_name → Each (Beside document place) (key_info document signature)
 key_beside document added signature place host_name s = parts_beside document signature place s.below (ds (codes "KeyInfo")) refl s.setting.signature_named.stands
 
-signed_octets_stay : (document added : Nodes) (signature place : Spot) (host_name : Expanded) → PropertySetting document added signature place host_name
+pub signed_octets_stay : (document added : Nodes) (signature place : Spot) (host_name : Expanded) → PropertySetting document added signature place host_name
     → value_octets (put_last added place.path document) signature ≡ value_octets document signature
 signed_octets_stay document added signature place host_name s =
     let new : Nodes = put_last added place.path document in
@@ -259,7 +259,7 @@ archive_stays form handed document added signature place host_name s before b =
     (objects_beside document signature place s.below s.setting.signature_named.stands) in
     λ i. refs i ++ three i ++ earlier i ++ others i
 
-stamp_octets_stay : (kind : PropertyKind) (form : Form) (handed : Handed) (document added : Nodes) (signature place : Spot) (host_name : Expanded)
+pub stamp_octets_stay : (kind : PropertyKind) (form : Form) (handed : Handed) (document added : Nodes) (signature place : Spot) (host_name : Expanded)
     → PropertySetting document added signature place host_name → (before : List Spot) → Each (Beside document place) before
     → octets_of_stamp kind form handed (put_last added place.path document) signature before ≡ octets_of_stamp kind form handed document signature before
 stamp_octets_stay SignatureStamp form handed document added signature place host_name s before b =
@@ -270,26 +270,26 @@ stamp_octets_stay Material form handed document added signature place host_name 
 stamp_octets_stay Passed form handed document added signature place host_name s before b = refl
 
 -- a property that the host holds
-abbrev IsHeld : Nodes → Spot → Spot → Type 0
+abbrev pub IsHeld : Nodes → Spot → Spot → Type 0
 IsHeld document place property = IsChild document place property
 
 pub same_self : (path : Path) → is_within path path ≡ true
 same_self [] = refl
 same_self (k ∷ path) = let here : (k == k) ≡ true = (unsigned_Decides k k).1 refl in rw here (same_self path)
 
-held_beside : (document : Nodes) (place property : Spot) → IsHeld document place property → Beside document place property
+pub held_beside : (document : Nodes) (place property : Spot) → IsHeld document place property → Beside document place property
 held_beside document place property c = record {
   stands = c.stands;
   beside = ap (λ path. is_within path place.path) c.number.1 ∙ not_within_holder place.path c.number.0;
 }
 
-held_apart : (document : Nodes) (place property : Spot) → IsHeld document place property → Apart document place property
+pub held_apart : (document : Nodes) (place property : Spot) → IsHeld document place property → Apart document place property
 held_apart document place property c = record {
   stands = c.stands;
   apart = λ e. not_both (sym (same_self place.path) ∙ ap (λ path. is_within path place.path) (sym e) ∙ (held_beside document place property c).beside);
 }
 
-token_stays : (document added : Nodes) (signature place : Spot) (host_name : Expanded) → PropertySetting document added signature place host_name
+pub token_stays : (document added : Nodes) (signature place : Spot) (host_name : Expanded) → PropertySetting document added signature place host_name
     → (property : Spot) → IsHeld document place property → token (put_last added place.path document) property ≡ token document property
 token_stays document added signature place host_name s property c =
     ap (octets_or_none (put_last added place.path document)) (called_stay document added place (xades (codes "EncapsulatedTimeStamp")) property (held_apart document place property c))
@@ -305,7 +305,7 @@ stamp_form_stays document added signature place host_name s property c =
     (all_apart document place (ds (codes "CanonicalizationMethod")) host_name s.setting.place_named s.setting.other.method _
     (each_first (IsNamed document (ds (codes "CanonicalizationMethod"))) _ (called_named document (ds (codes "CanonicalizationMethod")) property c.stands)))
 
-octets_at_stay : (handed : Handed) (document added : Nodes) (signature place : Spot) (host_name : Expanded) → PropertySetting document added signature place host_name
+pub octets_at_stay : (handed : Handed) (document added : Nodes) (signature place : Spot) (host_name : Expanded) → PropertySetting document added signature place host_name
     → (before : List Spot) → Each (Beside document place) before → (property : Spot) → IsHeld document place property
     → octets_at handed (put_last added place.path document) signature before property ≡ octets_at handed document signature before property
 octets_at_stay handed document added signature place host_name s before b property c =
@@ -343,10 +343,12 @@ cond_goes_on : (b : Bool) (x y z : List Entry) → x ≡ y ++ z → cond b x [] 
 cond_goes_on true x y z e = e
 cond_goes_on false x y z e = refl
 
-pub setting_keeps : (handed : Handed) (document added : Nodes) (signature place : Spot) (host_name : Expanded) → PropertySetting document added signature place host_name
-    → PropertiesGrow document added signature place
-    → GoesOn (covers handed document signature) (covers handed (put_last added place.path document) signature)
-setting_keeps handed document added signature place host_name s g =
+-- What the signature covers in the new document: what it covered, and behind it what the new properties are.
+pub setting_adds : (handed : Handed) (document added : Nodes) (signature place : Spot) (host_name : Expanded) → PropertySetting document added signature place host_name
+    → (g : PropertiesGrow document added signature place)
+    → covers handed (put_last added place.path document) signature ≡ covers handed document signature
+    ++ cond (is_signed document signature) (stamped handed (put_last added place.path document) signature (properties document signature) g.more) []
+setting_adds handed document added signature place host_name s g =
     let new : Nodes = put_last added place.path document in
     let values = value_bytes_stay document added signature place host_name s in
     let octets = signed_octets_stay document added signature place host_name s in
@@ -360,9 +362,15 @@ setting_keeps handed document added signature place host_name s g =
     let front : List Entry = digested handed document signature.path 1 (references document signature) in
     let fronts = all_digested_stay handed document added signature place host_name s.setting in
     let signs = signed_stays document added signature place host_name s in
-    let b : Bool = is_signed document signature in (
-      cond b more [],
-      (λ i. fronts i ++ cond (signs i) new_rest [])
-          ∙ ap (λ entries. front ++ entries) (cond_goes_on b new_rest old_rest more rests)
-          ∙ sym (append_assoc front (cond b old_rest []) (cond b more [])),
-    )
+    let b : Bool = is_signed document signature in
+    (λ i. fronts i ++ cond (signs i) new_rest [])
+    ∙ ap (λ entries. front ++ entries) (cond_goes_on b new_rest old_rest more rests)
+    ∙ sym (append_assoc front (cond b old_rest []) (cond b more []))
+
+pub setting_keeps : (handed : Handed) (document added : Nodes) (signature place : Spot) (host_name : Expanded) → PropertySetting document added signature place host_name
+    → PropertiesGrow document added signature place
+    → GoesOn (covers handed document signature) (covers handed (put_last added place.path document) signature)
+setting_keeps handed document added signature place host_name s g = (
+  cond (is_signed document signature) (stamped handed (put_last added place.path document) signature (properties document signature) g.more) [],
+  setting_adds handed document added signature place host_name s g,
+)

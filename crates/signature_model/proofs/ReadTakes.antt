@@ -23,18 +23,18 @@ use Rattle.signature_model.proofs.CountedStand.{counted_stand}
 
 -- Lists.
 
-not_nothing : {A : Type 0} (x : A) (xs : List A) → x ∷ xs ≡ [] → ⊥
+pub not_nothing : {A : Type 0} (x : A) (xs : List A) → x ∷ xs ≡ [] → ⊥
 not_nothing x xs e = not_both (sym (ap is_empty e))
 
-front_nothing : {A : Type 0} (xs ys : List A) → xs ++ ys ≡ [] → xs ≡ []
+pub front_nothing : {A : Type 0} (xs ys : List A) → xs ++ ys ≡ [] → xs ≡ []
 front_nothing [] ys e = refl
 front_nothing (x ∷ xs) ys e = absurd (not_nothing x (xs ++ ys) e)
 
-behind_nothing : {A : Type 0} (xs ys : List A) → xs ++ ys ≡ [] → ys ≡ []
+pub behind_nothing : {A : Type 0} (xs ys : List A) → xs ++ ys ≡ [] → ys ≡ []
 behind_nothing [] ys e = e
 behind_nothing (x ∷ xs) ys e = absurd (not_nothing x (xs ++ ys) e)
 
-map_nothing : {A B : Type 0} (f : A → B) (xs : List A) → map f xs ≡ [] → xs ≡ []
+pub map_nothing : {A B : Type 0} (f : A → B) (xs : List A) → map f xs ≡ [] → xs ≡ []
 map_nothing f [] e = refl
 map_nothing f (x ∷ xs) e = absurd (not_nothing (f x) (map f xs) e)
 
@@ -83,7 +83,7 @@ false_of_not false e = refl
 
 -- The answer.
 
-abbrev IsRead : Answer → Type 0
+abbrev pub IsRead : Answer → Type 0
 IsRead (Read spot) = Unit {0}
 IsRead NoSignature = ⊥
 IsRead Several = ⊥
@@ -91,11 +91,11 @@ IsRead (Shape place what) = ⊥
 IsRead (Include place) = ⊥
 IsRead (PropertyData place) = ⊥
 
-abbrev spot_or : Spot → Answer → Spot
+abbrev pub spot_or : Spot → Answer → Spot
 spot_or other (Read spot) = spot
 spot_or other answer = other
 
-is_read : (a : Answer) (spot : Spot) → a ≡ Read spot → IsRead a
+pub is_read : (a : Answer) (spot : Spot) → a ≡ Read spot → IsRead a
 is_read a spot e = subst IsRead (sym e) tt
 
 -- what is known of a signature that is read
@@ -109,7 +109,7 @@ passed s signature None None (Some next) e = absurd (is_read (PropertyData next)
 passed s signature None (Some place) next e = absurd (is_read (Include place) signature e)
 passed s signature (Some fault) place next e = absurd (is_read (Shape fault.place fault.what) signature e)
 
-none_first : (faults : List ShapeFault) → first_fault faults ≡ None → faults ≡ []
+pub none_first : (faults : List ShapeFault) → first_fault faults ≡ None → faults ≡ []
 none_first [] e = refl
 none_first (fault ∷ faults) e = absurd (none-some _ (sym e))
 

@@ -1,6 +1,6 @@
 -- The digest octets of a Reference stay where content is put into an element that its node set doesn't hold.
 use Rattle.std.proofs.Common.{◌≡◌, ℕ, suc, ◌+◌, Bool, true, false, not, ◌&&◌, ◌||◌, cond, List, [], ◌∷◌, ◌++◌, Option, Some, None, refl, sym, ◌∙◌, ap, subst, codes, arith}
-use Rattle.std.proofs.lemmas.Option.{none-some}
+use Rattle.std.proofs.lemmas.Option.{none-some, same_Some}
 use Rattle.std.specs.Prelude.{flat_map, map, option_and_then, encode_utf8_all}
 use Rattle.std.specs.Option.{option_map_or}
 use Rattle.document_model.specs.Names.{Expanded, same_expanded}
@@ -79,12 +79,9 @@ mutual
 follow_whole : (document : Nodes) → Follow document [] 0 document
 follow_whole document k c e = let n : 0 + k ≡ k = omega arith in ap (λ j. option_and_then (descend []) (nth j document)) n ∙ ap (option_and_then (descend [])) e
 
-some_same : {A : Type 0} (a b : A) → Some a ≡ Some b → a ≡ b
-some_same a b e = ap (λ o. option_map_or (λ x. x) o b) e
-
 single_stands : (document : Nodes) (paths : List Path) → Each (IsElementAt document) paths → (path : Path) → apex_of (target_among paths) ≡ Some path → IsElementAt document path
 single_stands document [] h path e = absurd (none-some _ e)
-single_stands document (p ∷ []) h path e = subst (IsElementAt document) (some_same p path e) h.0
+single_stands document (p ∷ []) h path e = subst (IsElementAt document) (same_Some p path e) h.0
 single_stands document (p ∷ q ∷ paths) h path e = absurd (none-some _ e)
 
 pub whole_or_element : (document : Nodes) (path : Path) → IsElementAt document path → IsWholeOrElement document path
@@ -96,11 +93,11 @@ on_apex : (document : Nodes) (o : Option Path) → ((path : Path) → o ≡ Some
 on_apex document None h set e = absurd (none-some _ e)
 on_apex document (Some path) h set e =
     let P : NodeSet → Type 0 = λ s. IsWholeOrElement document s.apex in
-    subst P (some_same (set_at path) set e) (whole_or_element document path (h path refl))
+    subst P (same_Some (set_at path) set e) (whole_or_element document path (h path refl))
 
 pub target_stands : (document : Nodes) (p : Place) (set : NodeSet) → target_set document p ≡ Some set → IsWholeOrElement document set.apex
 target_stands document Document set e =
-    let P : NodeSet → Type 0 = λ s. IsWholeOrElement document s.apex in subst P (some_same (set_at []) set e) tt
+    let P : NodeSet → Type 0 = λ s. IsWholeOrElement document s.apex in subst P (same_Some (set_at []) set e) tt
 target_stands document (Named identifier) set e =
     on_apex document (apex_of (target_of identifier document))
     (single_stands document (identified identifier [] 0 document) (identified_stand document identifier [] 0 document (follow_whole document))) set e
@@ -127,7 +124,7 @@ references_named document signature s =
     called_in_named document (ds (codes "Reference")) (signed_info document signature)
     (named_stand document (ds (codes "SignedInfo")) _ (signed_info_named document signature s))
 
-transforms_stay : (document added : Nodes) (host reference : Spot) (host_name : Expanded) → IsNamed document host_name host → IsOther host_name → Apart document host reference
+pub transforms_stay : (document added : Nodes) (host reference : Spot) (host_name : Expanded) → IsNamed document host_name host → IsOther host_name → Apart document host reference
     → transforms (put_last added host.path document) reference ≡ transforms document reference
 transforms_stay document added host reference host_name h o a =
     ap (flat_map (elements_in (put_last added host.path document))) (called_stay document added host (ds (codes "Transforms")) reference a)
@@ -135,7 +132,7 @@ transforms_stay document added host reference host_name h o a =
     (elements_stay document added host)
     (all_apart document host (ds (codes "Transforms")) host_name h o.transforms _ (called_named document (ds (codes "Transforms")) reference a.stands))
 
-transforms_stand : (document : Nodes) (reference : Spot) → IsSpot document reference → Each (IsSpot document) (transforms document reference)
+pub transforms_stand : (document : Nodes) (reference : Spot) → IsSpot document reference → Each (IsSpot document) (transforms document reference)
 transforms_stand document reference s =
     each_flat (IsNamed document (ds (codes "Transforms"))) (IsSpot document) (elements_in document) (transform_lists document reference)
     (λ list n. each_map (IsChild document list) (IsSpot document) (elements_in document list) (λ spot c. c.stands) (children_stand document list n.stands))

@@ -1,6 +1,6 @@
 -- Elements of a document where they stand, and those that they hold.
 use Rattle.std.proofs.Common.{◌≡◌, ℕ, suc, ◌+◌, List, [], ◌∷◌, ◌++◌, Option, Some, None, refl, sym, ◌∙◌, ap, subst, arith}
-use Rattle.std.proofs.lemmas.Option.{none-some}
+use Rattle.std.proofs.lemmas.Option.{none-some, same_Some}
 use Rattle.std.specs.Prelude.{option_and_then}
 use Rattle.std.specs.Option.{option_map_or}
 use Rattle.document_model.specs.Tree.{Node, Nodes, Path, Element, Text, Comment, Instruction, no_nodes, ◌⨾◌, nth, below, descend, node_at, IsElement, IsElementAt}
@@ -40,13 +40,10 @@ node_more document j path k = on_option (nth j document)
     on_option None = refl
     on_option (Some n) = descend_more path k n
 
-some_same : {A : Type 0} (a b : A) → Some a ≡ Some b → a ≡ b
-some_same a b e = ap (λ o. option_map_or (λ x. x) o b) e
-
 around_more : (path : Path) (k : ℕ) (node m c : Node) (outer : List Tag) → descend path node ≡ Some m → child k m ≡ Some c
     → elements_down (path ++ k ∷ []) node outer ≡ with_tag_of m (elements_down path node outer)
 around_more [] k node m c outer e f =
-    let same : m ≡ node = sym (some_same node m e) in
+    let same : m ≡ node = sym (same_Some node m e) in
     ap (λ o. option_map_or (λ n. with_tag_of node outer) o outer) (ap (child k) (sym same) ∙ f) ∙ ap (λ n. with_tag_of n outer) (sym same)
 around_more (j ∷ path) k node m c outer e f = on_option (λ n e'. around_more path k n m c (with_tag_of node outer) e' f) (child j node) e
   where
@@ -68,7 +65,7 @@ elements_more document j path k m c e f = on_option (nth j document) e
 
 -- the tags of a node that is there
 tags_below : (path : Path) (node m : Node) (outer : List Tag) → descend path node ≡ Some m → tags_down path node outer ≡ with_tag_of m (elements_down path node outer)
-tags_below [] node m outer e = ap (λ n. with_tag_of n outer) (some_same node m e)
+tags_below [] node m outer e = ap (λ n. with_tag_of n outer) (same_Some node m e)
 tags_below (k ∷ path) node m outer e = on_option (λ c e'. tags_below path c m (with_tag_of node outer) e') (child k node) e
   where
     on_option : ((c : Node) → descend path c ≡ Some m → tags_down path c (with_tag_of node outer) ≡ with_tag_of m (elements_down path c (with_tag_of node outer)))

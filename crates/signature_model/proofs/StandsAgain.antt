@@ -1,8 +1,7 @@
 -- An element of the document stands in the new one, in the same scope.
 use Rattle.std.proofs.Common.{◌≡◌, ℕ, false, not, ◌&&◌, List, [], ◌∷◌, Option, Some, None, refl, sym, ◌∙◌, ap, subst, inl, inr, Bool, true}
-use Rattle.std.proofs.lemmas.Option.{none-some}
+use Rattle.std.proofs.lemmas.Option.{none-some, same_Some}
 use Rattle.std.specs.Prelude.{option_and_then, option_map}
-use Rattle.std.specs.Option.{option_map_or}
 use Rattle.document_model.specs.Tree.{Node, Nodes, Path, Element, Text, Comment, Instruction, nth, descend, node_at, IsElement, IsElementAt, in_nth, with_last, put_last}
 use Rattle.document_model.specs.Scopes.{Tag, with_tag_of, elements_around, tags_at}
 use Rattle.document_model.specs.NodeSets.{subtree, without, is_within}
@@ -53,9 +52,6 @@ shell_stays document added (j ∷ host) (k ∷ path) e = nth_stays added host pa
 abbrev AnElement : Option Node → Type 0
 AnElement o = (m : Node) × (o ≡ Some m) × IsElement m
 
-some_same : {A : Type 0} (a b : A) → Some a ≡ Some b → a ≡ b
-some_same a b e = ap (λ o. option_map_or (λ x. x) o b) e
-
 not_emptied : (node : Node) → IsElement (emptied node) → IsElement node
 not_emptied (Element name attributes nodes) i = tt
 not_emptied (Text cs) i = i
@@ -71,7 +67,7 @@ emptied_element (Instruction target content) i = i
 from_shell : (o : Option Node) (m : Node) → IsElement m → option_map emptied o ≡ Some (emptied m) → AnElement o
 from_shell None m i e = absurd (none-some _ e)
 from_shell (Some node) m i e =
-    (node, refl, not_emptied node (subst IsElement (sym (some_same (emptied node) (emptied m) e)) (emptied_element m i)))
+    (node, refl, not_emptied node (subst IsElement (sym (same_Some (emptied node) (emptied m) e)) (emptied_element m i)))
 
 same_tag : (outer : List Tag) (node : Node) → with_tag_of (emptied node) outer ≡ with_tag_of node outer
 same_tag outer (Element name attributes nodes) = refl
@@ -90,7 +86,7 @@ spot_stays document added host h spot s =
     let shell = shell_stays document added host spot.path s.element in
     let there = from_shell (node_at new spot.path) s.element.0 s.element.2 (shell ∙ ap (option_map emptied) s.element.1) in
     let same : emptied there.0 ≡ emptied s.element.0 =
-    some_same (emptied there.0) (emptied s.element.0) (sym (ap (option_map emptied) there.1) ∙ shell ∙ ap (option_map emptied) s.element.1) in
+    same_Some (emptied there.0) (emptied s.element.0) (sym (ap (option_map emptied) there.1) ∙ shell ∙ ap (option_map emptied) s.element.1) in
     let around = keeps_around (without (subtree spot.path) host) document added host spot.path h (whole_or_element document spot.path s.element)
     (not_middle (is_within spot.path host) (not (is_within host host)) true (ap not (same_self host))) in
     let tags : tags_at new spot.path ≡ tags_at document spot.path =

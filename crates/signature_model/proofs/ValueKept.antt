@@ -21,7 +21,7 @@ not_false : (b : Bool) → not b ≡ false → b ≡ true
 not_false true e = refl
 not_false false e = absurd (not_both e)
 
-blank_place : (document : Nodes) (signature place : Spot) → value document signature ≡ place ∷ [] → is_signed document signature ≡ false → is_blank document place ≡ true
+pub blank_place : (document : Nodes) (signature place : Spot) → value document signature ≡ place ∷ [] → is_signed document signature ≡ false → is_blank document place ≡ true
 blank_place document signature place v e =
     not_false (is_blank document place) (neither (not (is_blank document place)) false (ap (list_any (λ spot. not (is_blank document spot))) (sym v) ∙ e)).0
 

@@ -3,6 +3,7 @@
 use Rattle.std.specs.Prelude.{ℕ, suc, Bool, true, false, ◌&&◌, if◌then◌else◌, List, [], ◌∷◌, ◌++◌, map, Option, Some, None, is_none, option_and_then, codes}
 use Rattle.std.specs.Option.{option_map_or}
 use Rattle.document_model.specs.Characters.{◌is◌, begins_with}
+use Rattle.document_model.specs.Items.{or_else}
 use Rattle.document_model.specs.Tree.{Node, Nodes, Path, Element, Text, Comment, Instruction, no_nodes, ◌⨾◌}
 use Rattle.document_model.specs.NodeSets.{NodeSet, subtree, without_comments, without, part, target_of, Target, Missing, Single, Double}
 use Rattle.document_model.specs.Canonical.{Form}
@@ -231,20 +232,12 @@ not_base64 handed document signature k reference =
 -- the first fault of one test among References from the k-th on
 abbrev pub first_of : (ℕ → Spot → Option Fault) → ℕ → List Spot → Option Fault
 first_of test k [] = None
-first_of test k (reference ∷ references) = first_or (test k reference) (first_of test (suc k) references)
-  where
-    first_or : Option Fault → Option Fault → Option Fault
-    first_or None other = other
-    first_or (Some fault) other = Some fault
+first_of test k (reference ∷ references) = or_else (test k reference) (first_of test (suc k) references)
 
 -- of several tests the first that finds one
 abbrev pub first_code : List (ℕ → Spot → Option Fault) → List Spot → Option Fault
 first_code [] references = None
-first_code (test ∷ tests) references = first_or (first_of test 1 references) (first_code tests references)
-  where
-    first_or : Option Fault → Option Fault → Option Fault
-    first_or None other = other
-    first_or (Some fault) other = Some fault
+first_code (test ∷ tests) references = or_else (first_of test 1 references) (first_code tests references)
 
 -- the fault of the References of a signature
 abbrev pub fault : Handed → Nodes → Path → List Spot → Option Fault

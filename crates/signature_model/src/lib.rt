@@ -4,7 +4,7 @@
 //! The definitions stand in `specs/`, one file a topic. Each function here has an empty body, and its contract is a law.
 #![tactic(auto)]
 
-ghost use Rattle.signature_model.specs.Agreeing.{FormsAgree, ReadTakesItem};
+ghost use Rattle.signature_model.specs.Agreeing.{FormsAgree, PlacesAreWithin, ReadTakesItem};
 ghost use Rattle.signature_model.specs.Keeping.{PropertyKeepsCovers, ValueKeepsCovers, ItemKeepsCovers, ItemsKeepCovers, StaysFree, KeepsCounted, ItemKeepsCounted, KeepsSpots};
 
 /// Content without identifiers that is put last into the host of a free signature leaves all that the signature covers: the list of what
@@ -56,4 +56,9 @@ pub fn forms_agree()
 /// A document that is read has a signature that takes an item, where no place of it is covered, and it is signed or not as the item asks.
 pub fn read_signature_takes_items()
     ensures { ReadTakesItem }
+{}
+
+/// The place that is told of a fault in base64 is at most the length of the document, or of the octets that are handed in.
+pub fn places_are_within()
+    ensures { PlacesAreWithin }
 {}

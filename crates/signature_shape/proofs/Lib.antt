@@ -1,11 +1,1 @@
-pub mod Named
-pub mod Adding
-pub mod Scanning
-pub mod AnyOrder
-pub mod Spread
-pub mod FromNone
-pub mod NoneLeft
-pub mod LineEach
 pub mod LineFaults
-pub mod Ordered
-pub mod FormatLists

@@ -11,10 +11,10 @@ use Rattle.signature_model.specs.Shape.{shape_faults, covered_line, signed_line,
 use Rattle.signature_model.specs.Spots.{Spot}
 use Rattle.signature_model.proofs.FirstFaults.{with_faults_append, with_faults_first}
 use Rattle.signature_shape.specs.declared.faults.Faults.{Faults}
-use Rattle.signature_shape.specs.declared.places.FirstPlace.{FirstPlace}
+use Rattle.signature_parts.specs.declared.places.FirstPlace.{FirstPlace}
 use Rattle.signature_shape.specs.Faults.{fault_in, with_line, HasFault, Tells}
 use Rattle.signature_shape.specs.Lines.{outer_lines, inner_lines}
-use Rattle.signature_shape.specs.Places.{place_in, IsFirst}
+use Rattle.signature_parts.specs.Places.{place_in, IsFirst}
 
 abbrev fault_of : What → Path → ShapeFault
 fault_of what place = record { what = what; place = place }

@@ -1,12 +1,2 @@
-pub mod Places
 pub mod Faults
-pub mod Parts
-pub mod ListsLeft
-pub mod Slots
-pub mod Kinds
-pub mod StampsLeft
-pub mod QualifyingLeft
-pub mod Digests
-pub mod LineParts
 pub mod Lines
-pub mod DataObjects

@@ -1,26 +1,10 @@
--- Faults that elements of a line share, and lines together.
-use Rattle.std.specs.Prelude.{◌++◌, List, [], codes, filter, if◌then◌else◌, is_none, not}
-use Rattle.document_model.specs.Characters.{is_empty}
-use Rattle.document_model.specs.Tree.{Nodes, Path}
+-- The lines of a signature's shape together.
+use Rattle.std.specs.Prelude.{◌++◌, List}
+use Rattle.document_model.specs.Tree.{Nodes}
 use Rattle.signature_model.specs.Faults.{ShapeFault, of_line}
 use Rattle.signature_model.specs.Faults as words
-use Rattle.signature_model.specs.Parts.{form_in, objects, qualifying_objects}
-use Rattle.signature_model.specs.Shape.{id_of, or_first, points_to, parts_line, info_line, form_line, method_line, reference_line, qualifying_line, properties_line, covered_line, signed_line, data_object_line, key_line, value_line, stamp_line, values_line}
-use Rattle.signature_model.specs.Spots.{Spot, attribute, paths}
-
--- methods that name no canonical form
-abbrev pub formless : Nodes → List Spot → List Path
-formless document methods = paths (filter (λ method. is_none (form_in document method)) methods)
-
--- where no object holds qualifying properties: the first object, or else the signature
-abbrev pub without_holder : Nodes → Spot → List Path
-without_holder document signature =
-    if is_empty (qualifying_objects document signature) then or_first (objects document signature) signature else []
-
--- qualifying properties whose Target isn't the signature
-abbrev pub pointing_elsewhere : Spot → List Spot → List Path
-pointing_elsewhere signature properties =
-    paths (filter (λ spot. not (points_to (attribute (codes "Target") spot) (id_of signature))) properties)
+use Rattle.signature_model.specs.Shape.{parts_line, info_line, form_line, method_line, reference_line, qualifying_line, properties_line, covered_line, signed_line, data_object_line, key_line, value_line, stamp_line, values_line}
+use Rattle.signature_model.specs.Spots.{Spot}
 
 -- the lines on the parts of a signature and on where its properties stand, in their order
 abbrev pub outer_lines : Nodes → Spot → List ShapeFault

@@ -2,14 +2,14 @@
 
 ghost use Rattle.std.specs.Prelude.{◌≡◌, None};
 ghost use Rattle.signature_shape.specs.Faults.{what_in, fault_in, with_line, HasFault};
-ghost use Rattle.signature_shape.specs.Places.{place_in, IsWithin};
+ghost use Rattle.signature_parts.specs.Places.{place_in, IsWithin};
 
-use crate::places::FirstPlace;
 use crate::what::What;
 use doc_spans::{Doc, NodeId};
+use signature_parts::FirstPlace;
 
 /// A fault of a signature's shape: a line of the shape, and the element at which it is broken.
-#[derive(Clone, Copy, PartialEq, Eq, Debug)]
+#[derive(Clone, Copy)]
 pub struct ShapeFault {
     /// The element.
     pub node: NodeId,
@@ -18,7 +18,7 @@ pub struct ShapeFault {
 }
 
 /// The first fault of the lines so far: the one whose element stands first in document order, and of several there that of the first line.
-#[derive(Clone, Copy, PartialEq, Eq, Debug)]
+#[derive(Clone, Copy)]
 pub struct Faults {
     pub(crate) first: Option<ShapeFault>,
 }
@@ -45,7 +45,7 @@ impl Faults {
         ensures fault { fault_in doc.entry self.new.first ≡ with_line (what_in what) (place_in doc.entry place) (fault_in doc.entry self.old.first) }
         ensures has { HasFault doc.entry self.new.first }
     {
-        if let Some(node) = place.node {
+        if let Some(node) = place.node() {
             let fault = ShapeFault { node, what };
             match self.first {
                 Some(kept) => {

@@ -9,13 +9,14 @@ ghost use Rattle.signature_shape.specs.Faults.{fault_in, HasFault, Tells};
 ghost use Rattle.signature_shape.specs.Lines.{outer_lines, inner_lines};
 
 use crate::faults::{Faults, ShapeFault};
-use crate::lines::{
-    covered_line, data_object_line, form_line, info_line, key_line, method_line, parts_line,
-    properties_line, qualifying_line, reference_line, signed_line, stamp_line, value_line,
-    values_line,
-};
 use crate::what::What;
 use doc_spans::{Doc, NodeId};
+use inner_lines::{
+    covered_line, data_object_line, key_line, signed_line, stamp_line, value_line, values_line,
+};
+use outer_lines::{
+    form_line, info_line, method_line, parts_line, properties_line, qualifying_line, reference_line,
+};
 use std::alloc::Global;
 use xa_io::OutOfMemory;
 

@@ -1,6 +1,5 @@
 use Rattle.std.proofs.Common.{ap, sym, ◌∙◌}
-use Rattle.base64_texts.specs.Readings.{read_on}
-use Rattle.base64_texts.proofs.Pushed.{read_on-append}
+use Rattle.base64_texts.specs.Readings.{read_on, read_on-append}
 use Rattle.doc_spans.specs.Pieces.{characters_in}
 use Rattle.signature_elements.specs.TextsLeft.{text_left}
 use Rattle.qualifying_props.proofs.decoding.decode.Goals as goal

@@ -4,9 +4,9 @@ use Rattle.signature_elements.specs.Standing.{spot_of}
 use Rattle.signature_elements.proofs.Laws.{next_spot}
 use Rattle.signature_model.specs.Spots.{called, called_in, paths}
 use Rattle.signature_model.specs.Vocabulary.{xades}
-use Rattle.signature_shape.specs.StampsLeft.{stamps_doc, stamps_left}
-use Rattle.signature_shape.proofs.Adding.{adds_as}
-use Rattle.signature_shape.proofs.Named.{xades_name, all_called}
+use Rattle.signature_parts.specs.StampsLeft.{stamps_doc, stamps_left}
+use Rattle.signature_parts.proofs.Adding.{adds_as}
+use Rattle.signature_parts.proofs.Named.{xades_name, all_called}
 use Rattle.qualifying_props.proofs.Finding.{finding_starts, finding_goes_on, paths_called}
 use Rattle.qualifying_props.proofs.includes.first_include.Goals as goal
 

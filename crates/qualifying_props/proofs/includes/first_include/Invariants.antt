@@ -4,7 +4,7 @@ use Rattle.signature_elements.specs.Standing.{spot_of}
 use Rattle.signature_model.specs.Parts.{includes}
 use Rattle.signature_model.specs.Spots.{called_in, paths}
 use Rattle.signature_model.specs.Vocabulary.{xades}
-use Rattle.signature_shape.specs.StampsLeft.{stamps_doc, stamps_left}
+use Rattle.signature_parts.specs.StampsLeft.{stamps_doc, stamps_left}
 use Rattle.qualifying_props.proofs.Finding.{Finding}
 use Rattle.qualifying_props.proofs.includes.first_include.Given as goal
 

@@ -3,7 +3,7 @@ use Rattle.std.specs.List.{list_any}
 use Rattle.doc_spans.specs.Seen.{document_in}
 use Rattle.signature_elements.specs.Standing.{spot_of}
 use Rattle.signature_model.specs.Parts.{has_values, is_values}
-use Rattle.signature_shape.specs.ListsLeft.{all_doc, all_left}
+use Rattle.signature_parts.specs.ListsLeft.{all_doc, all_left}
 use Rattle.qualifying_props.proofs.lists.has_values.Given as goal
 
 -- those that were passed are no values

@@ -2,7 +2,7 @@ use Rattle.std.proofs.Common.{◌≡◌}
 use Rattle.doc_spans.specs.Seen.{document_in}
 use Rattle.signature_elements.specs.Standing.{spot_of}
 use Rattle.signature_model.specs.Parts.{references}
-use Rattle.signature_shape.specs.ListsLeft.{named_doc, named_left}
+use Rattle.signature_parts.specs.ListsLeft.{named_doc, named_left}
 use Rattle.qualifying_props.proofs.Listing.{Listing}
 use Rattle.qualifying_props.proofs.lists.reference_nodes.Given as goal
 

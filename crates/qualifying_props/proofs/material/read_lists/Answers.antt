@@ -6,7 +6,7 @@ use Rattle.signature_elements.proofs.Laws.{next_spot}
 use Rattle.signature_model.specs.Parts.{as_kind, RevocationList}
 use Rattle.signature_model.specs.Spots.{called, called_in}
 use Rattle.signature_model.specs.Vocabulary.{xades}
-use Rattle.signature_shape.proofs.Named.{xades_name, all_called}
+use Rattle.signature_parts.proofs.Named.{xades_name, all_called}
 use Rattle.qualifying_props.proofs.DataOfKind.{data_called}
 use Rattle.qualifying_props.proofs.Reading.{reading_starts, reading_goes_on, reads_as}
 use Rattle.qualifying_props.proofs.material.read_lists.Goals as goal

@@ -5,7 +5,7 @@ use Rattle.signature_elements.specs.Standing.{spot_of}
 use Rattle.signature_model.specs.Parts.{as_kind, Certificate}
 use Rattle.signature_model.specs.Spots.{called}
 use Rattle.signature_model.specs.Vocabulary.{xades}
-use Rattle.signature_shape.proofs.Named.{xades_name, all_called}
+use Rattle.signature_parts.proofs.Named.{xades_name, all_called}
 use Rattle.qualifying_props.specs.Data.{lists_of}
 use Rattle.qualifying_props.proofs.Reading.{reads_as}
 use Rattle.qualifying_props.proofs.material.read_values.Goals as goal

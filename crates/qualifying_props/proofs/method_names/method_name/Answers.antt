@@ -5,7 +5,7 @@ use Rattle.std.specs.Prelude.{option_map, string_bytes, unwrap_or}
 use Rattle.std.specs.Str.{chars}
 use Rattle.doc_spans.specs.Pieces.{characters_left}
 use Rattle.signature_elements.specs.Standing.{spot_of, spot_or_none}
-use Rattle.signature_shape.proofs.Named.{attribute_as}
+use Rattle.signature_elements.proofs.AsciiNames.{attribute_as}
 use Rattle.qualifying_props.specs.PartsOf.{name_in}
 use Rattle.qualifying_props.proofs.method_names.method_name.Goals as goal
 

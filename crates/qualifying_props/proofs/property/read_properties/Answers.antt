@@ -5,7 +5,7 @@ use Rattle.doc_spans.proofs.Each.{map_join}
 use Rattle.signature_elements.specs.Standing.{spot_of}
 use Rattle.signature_elements.proofs.Laws.{next_spot}
 use Rattle.signature_model.specs.Parts.{properties}
-use Rattle.signature_shape.specs.ListsLeft.{all_doc, all_left}
+use Rattle.signature_parts.specs.ListsLeft.{all_doc, all_left}
 use Rattle.qualifying_props.specs.Properties.{shown_property}
 use Rattle.qualifying_props.specs.Shown.{ShownProperty}
 use Rattle.qualifying_props.proofs.Gathering.{Gathering, gathering_goes_on}

@@ -3,7 +3,7 @@ use Rattle.std.specs.Prelude.{map}
 use Rattle.doc_spans.specs.Seen.{document_in}
 use Rattle.signature_elements.specs.Standing.{spot_of}
 use Rattle.signature_model.specs.Parts.{properties}
-use Rattle.signature_shape.specs.ListsLeft.{all_doc, all_left}
+use Rattle.signature_parts.specs.ListsLeft.{all_doc, all_left}
 use Rattle.qualifying_props.specs.Properties.{shown_property}
 use Rattle.qualifying_props.proofs.Gathering.{Gathering}
 use Rattle.qualifying_props.proofs.property.read_properties.Given as goal

@@ -5,8 +5,8 @@ use Rattle.signature_elements.proofs.Laws.{next_spot}
 use Rattle.signature_model.specs.Parts.{as_kind, Certificate}
 use Rattle.signature_model.specs.Spots.{called, called_in}
 use Rattle.signature_model.specs.Vocabulary.{ds}
-use Rattle.signature_shape.specs.ListsLeft.{named_doc, named_left}
-use Rattle.signature_shape.proofs.Named.{ds_name, all_called}
+use Rattle.signature_parts.specs.ListsLeft.{named_doc, named_left}
+use Rattle.signature_parts.proofs.Named.{ds_name, all_called}
 use Rattle.qualifying_props.proofs.DataOfKind.{data_called}
 use Rattle.qualifying_props.proofs.Reading.{reading_goes_on, reads_as}
 use Rattle.qualifying_props.proofs.values.read_key_certs.Goals as goal

@@ -4,7 +4,7 @@ use Rattle.signature_elements.specs.Standing.{spot_of}
 use Rattle.signature_model.specs.Parts.{as_kind, key_certificates, Certificate}
 use Rattle.signature_model.specs.Spots.{called_in}
 use Rattle.signature_model.specs.Vocabulary.{ds}
-use Rattle.signature_shape.specs.ListsLeft.{named_doc, named_left}
+use Rattle.signature_parts.specs.ListsLeft.{named_doc, named_left}
 use Rattle.qualifying_props.proofs.Reading.{Reading}
 use Rattle.qualifying_props.proofs.values.read_key_certs.Given as goal
 

@@ -13,7 +13,7 @@ use Rattle.signature_elements.proofs.Laws.{next_spot}
 use Rattle.reference_chains.specs.ChainsIn.{chain_in}
 use Rattle.reference_chains.specs.ChainSteps.{more_all}
 use Rattle.reference_chains.proofs.Steps.{none_stays, list_step, all_steps}
-use Rattle.reference_chains.proofs.Words.{word}
+use Rattle.signature_elements.proofs.AsciiNames.{word}
 use Rattle.reference_chains.proofs.chains.chain_on.Goals as goal
 
 pub loop-list-init : goal.loop-list-init

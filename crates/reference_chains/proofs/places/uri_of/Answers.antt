@@ -3,7 +3,7 @@ use Rattle.std.proofs.lemmas.Str.{chars-nil}
 use Rattle.std.specs.Prelude.{unwrap_or}
 use Rattle.signature_model.specs.Spots.{attribute}
 use Rattle.signature_elements.specs.Standing.{spot_of}
-use Rattle.reference_chains.proofs.Words.{word}
+use Rattle.signature_elements.proofs.AsciiNames.{word}
 use Rattle.reference_chains.proofs.places.uri_of.Goals as goal
 
 pub returns-in-Some : goal.returns-in-Some

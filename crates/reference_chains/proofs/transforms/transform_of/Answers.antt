@@ -7,7 +7,7 @@ use Rattle.signature_model.specs.Parts.{form_in}
 use Rattle.signature_model.specs.Spots.{Spot, attribute, is_called}
 use Rattle.signature_model.specs.Vocabulary.{ds}
 use Rattle.signature_elements.specs.Standing.{spot_of}
-use Rattle.reference_chains.proofs.Words.{word}
+use Rattle.signature_elements.proofs.AsciiNames.{word}
 use Rattle.reference_chains.proofs.transforms.transform_of.Goals as goal
 
 pub returns-then-not-is_called-clause-transform : goal.returns-then-not-is_called-clause-transform

@@ -11,4 +11,4 @@ push-requires c =
 
 pub invariant_of-self-2 : goal.invariant_of-self-2
 invariant_of-self-2 c = λ open_next.
-    ap (after_all Start) c.in_ok-push.ensures.ok ∙ goes_further c.self.inside.stage c.after-next.result c.self.inside.taken c.args.octet c.self.invariant c.after-next.ensures open_next
+    ap (after_all Start) c.in-Ok.ensures.ok ∙ goes_further c.self.inside.stage c.after-next.result c.self.inside.taken c.args.octet c.self.invariant c.after-next.ensures open_next

@@ -1,0 +1,4 @@
+pub mod NoneLeft
+pub mod LineEach
+pub mod Ordered
+pub mod FormatLists

@@ -1,0 +1,16 @@
+use Rattle.std.proofs.Common.{◌≡◌}
+use Rattle.std.specs.Prelude.{filter, flat_map, is_none}
+use Rattle.signature_model.specs.Parts.{form_in, stamp_method}
+use Rattle.signature_model.specs.Shape.{stamp_methods}
+use Rattle.signature_model.specs.Spots.{paths}
+use Rattle.doc_spans.specs.Seen.{document_in}
+use Rattle.signature_elements.specs.Standing.{spot_of}
+use Rattle.signature_parts.specs.StampsLeft.{stamps_doc, stamps_left}
+use Rattle.signature_parts.proofs.Adding.{Adding}
+use Rattle.outer_lines.proofs.form.add_formless_methods.Given as goal
+
+abbrev pub invariant-loop-stamp : goal.invariant-loop-stamp
+invariant-loop-stamp l =
+    (goal.iterator-loop-stamp).can_next l.stamp-iterator × (goal.iterator-loop-stamp).is_finite l.stamp-iterator
+    × (stamps_doc l.stamp-iterator ≡ l.doc)
+    × Adding l.doc (paths (filter (λ spot. is_none (form_in (document_in l.doc) spot)) (flat_map (stamp_method (document_in l.doc)) (stamps_left l.stamp-iterator)))) (paths (filter (λ spot. is_none (form_in (document_in l.doc) spot)) (stamp_methods (document_in l.doc) (spot_of l.doc l.fn.signature)))) l.fn.places l.places

@@ -1,0 +1,5 @@
+pub mod Named
+pub mod Adding
+pub mod AnyOrder
+pub mod Spread
+pub mod FromNone

@@ -1,0 +1,10 @@
+use Rattle.std.proofs.Common.{refl, codes}
+use Rattle.signature_model.specs.Vocabulary.{ds}
+use Rattle.signature_elements.specs.Standing.{spot_or_none}
+use Rattle.signature_parts.proofs.Named.{ds_name, part_by}
+use Rattle.signature_parts.proofs.parts.digest_method.Goals as goal
+
+pub returns : goal.returns
+returns c =
+    part_by c.args.doc _ (ds (codes "DigestMethod")) (spot_or_none c.args.doc c.args.holder) _ (ds_name _ (codes "DigestMethod") refl c.ds.ensures)
+    c.first_in.ensures.spot c.first_in.ensures.there

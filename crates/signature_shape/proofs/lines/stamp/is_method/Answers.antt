@@ -1,7 +1,0 @@
-use Rattle.std.proofs.Common.{refl, codes}
-use Rattle.signature_elements.specs.Standing.{spot_of}
-use Rattle.signature_shape.proofs.FromNone.{called_ds}
-use Rattle.signature_shape.proofs.lines.stamp.is_method.Goals as goal
-
-pub returns : goal.returns
-returns c = called_ds (codes "CanonicalizationMethod") _ (spot_of c.args.doc c.args.child) _ refl c.ds.ensures c.is_called.ensures

@@ -1,8 +1,0 @@
-use Rattle.std.proofs.Common.{refl, codes}
-use Rattle.signature_model.specs.Vocabulary.{ds}
-use Rattle.signature_shape.proofs.Named.{ds_name, named_part}
-use Rattle.signature_shape.proofs.part_lists.references.Goals as goal
-
-pub returns-clause-spots : goal.returns-clause-spots
-returns-clause-spots c =
-    named_part c.args.doc _ (ds (codes "Reference")) _ _ _ (ds_name _ (codes "Reference") refl c.ds.ensures) c.signed_info.ensures c.of.ensures.spots

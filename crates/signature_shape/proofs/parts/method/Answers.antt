@@ -1,9 +1,0 @@
-use Rattle.std.proofs.Common.{refl, codes}
-use Rattle.signature_model.specs.Vocabulary.{ds}
-use Rattle.signature_shape.proofs.Named.{ds_name, part_in}
-use Rattle.signature_shape.proofs.parts.method.Goals as goal
-
-pub returns : goal.returns
-returns c =
-    part_in c.args.doc _ (ds (codes "CanonicalizationMethod")) _ _ _ (ds_name _ (codes "CanonicalizationMethod") refl c.ds.ensures)
-    c.signed_info.ensures c.first_in.ensures.spot c.first_in.ensures.there

@@ -1,9 +1,0 @@
-use Rattle.std.proofs.Common.{refl, codes}
-use Rattle.signature_model.specs.Vocabulary.{xades}
-use Rattle.signature_shape.proofs.Named.{xades_name, part_in}
-use Rattle.signature_shape.proofs.parts.unsigned.Goals as goal
-
-pub returns : goal.returns
-returns c =
-    part_in c.args.doc _ (xades (codes "UnsignedProperties")) _ _ _ (xades_name _ (codes "UnsignedProperties") refl c.xades.ensures)
-    c.qualifying.ensures c.first_in.ensures.spot c.first_in.ensures.there

@@ -1,5 +1,0 @@
-use Rattle.std.proofs.Common.{length}
-use Rattle.signature_shape.proofs.slots.+lacks_one.Given as goal
-
-abbrev pub decreases-lacks_one : goal.decreases-lacks_one
-decreases-lacks_one l = length l.slots.now

@@ -1,5 +1,0 @@
-use Rattle.std.proofs.Common.{length}
-use Rattle.signature_shape.proofs.slots.Order.+after.Given as goal
-
-abbrev pub decreases-after : goal.decreases-after
-decreases-after l = length l.self.left.now

@@ -1,5 +1,0 @@
-use Rattle.std.proofs.Common.{◌∙◌}
-use Rattle.signature_shape.proofs.stamp_elements.StampElementsIterator.next.Goals as goal
-
-pub invariant_of-self : goal.invariant_of-self
-invariant_of-self c = record { same = c.next.ensures.steps.0 ∙ c.properties.invariant.0 }
