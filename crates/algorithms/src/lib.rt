@@ -4,8 +4,6 @@
 mod digest_kinds;
 mod digests;
 mod signature_kinds;
-#[cfg(test)]
-mod tests;
 
 pub use digest_kinds::DigestKind;
 pub use digests::{Digest, Hasher};

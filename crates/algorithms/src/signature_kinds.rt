@@ -10,15 +10,20 @@ pub enum SignatureKind {
     Hss,
     /// XMSS of one tree (RFC 8391).
     Xmss,
+    /// XMSS^MT, of layers of trees (RFC 8391).
+    XmssMt,
 }
 
 // The content octets of the object identifiers id-alg-hss-lms-hashsig, 1.2.840.113549.1.9.16.3.17
-// (RFC 8708, section 3), and id-alg-xmss-hashsig, 1.3.6.1.5.5.7.6.34 (RFC 9802, section 3).
+// (RFC 8708, section 3), and id-alg-xmss-hashsig and id-alg-xmssmt-hashsig, 1.3.6.1.5.5.7.6.34 and
+// .35 (RFC 9802, section 3).
 const HSS: [u8; 11] = [
     0x2A, 0x86, 0x48, 0x86, 0xF7, 0x0D, 0x01, 0x09, 0x10, 0x03, 0x11,
 ];
 
 const XMSS: [u8; 8] = [0x2B, 0x06, 0x01, 0x05, 0x05, 0x07, 0x06, 0x22];
+
+const XMSS_MT: [u8; 8] = [0x2B, 0x06, 0x01, 0x05, 0x05, 0x07, 0x06, 0x23];
 
 impl SignatureKind {
     ghost use Rattle.algorithms.specs.SignatureKind.{oid_of, word_of};
@@ -30,6 +35,7 @@ impl SignatureKind {
         match self {
             SignatureKind::Hss => "hss",
             SignatureKind::Xmss => "xmss",
+            SignatureKind::XmssMt => "xmssmt",
         }
     }
 
@@ -40,6 +46,7 @@ impl SignatureKind {
         match self {
             SignatureKind::Hss => &HSS,
             SignatureKind::Xmss => &XMSS,
+            SignatureKind::XmssMt => &XMSS_MT,
         }
     }
 
@@ -52,6 +59,8 @@ impl SignatureKind {
             Some(SignatureKind::Hss)
         } else if oid == SignatureKind::Xmss.oid() {
             Some(SignatureKind::Xmss)
+        } else if oid == SignatureKind::XmssMt.oid() {
+            Some(SignatureKind::XmssMt)
         } else {
             None
         }
@@ -73,6 +82,12 @@ pub fn verify(kind: SignatureKind, key: &[u8], message: &[u8], signature: &[u8])
             matches!(
                 xmss_verify::verify(key, message, signature),
                 xmss_verify::Verdict::Good
+            )
+        }
+        SignatureKind::XmssMt => {
+            matches!(
+                xmssmt_verify::verify(key, message, signature),
+                xmssmt_verify::Verdict::Good
             )
         }
     }

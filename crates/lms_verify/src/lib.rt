@@ -13,8 +13,6 @@ mod keys;
 pub mod lm_ots;
 pub mod lms;
 mod sets;
-#[cfg(test)]
-mod tests;
 
 pub use hss::verify;
 pub use sets::rows_are_derived;

@@ -1,5 +1,1 @@
-pub mod Octets
-pub mod Chains
-pub mod Paths
 pub mod Shape
-pub mod Parts

@@ -1,5 +1,2 @@
-pub mod Octets
-pub mod Address
-pub mod Wots
-pub mod Tree
+pub mod Places
 pub mod Xmss

@@ -1,7 +1,8 @@
 //! Addresses: where in a tree a hash stands (RFC 8391, section 2.5).
 
 ghost use Rattle.std.specs.Prelude.{◌≡◌, ℕ, ◌+◌, ◌≤◌, ◌++◌, length, take, drop};
-ghost use Rattle.xmss_verify.specs.Address.{word, place_octets, address_octets};
+ghost use Rattle.xmss_definitions.specs.Address.{word, place_octets, address_octets};
+ghost use Rattle.xmss_verify.specs.Places.{place_of};
 
 /// What an address names: its type, and three words that tell which of that type.
 #[derive(Clone, Copy, Debug, PartialEq, Eq)]
@@ -45,7 +46,7 @@ fn words(kind: u32, first: u32, second: u32, third: u32) -> [u8; 16]
 impl Place {
     // The type and the words.
     fn octets(self) -> [u8; 16]
-        ensures { result ≡ place_octets self }
+        ensures { result ≡ place_octets (place_of self) }
     {
         match self {
             Place::ChainStep { leaf, chain, step } => words(0, leaf, chain, step),
@@ -62,7 +63,7 @@ impl Place {
 impl Address {
     /// The 32 octets of the address with this keyAndMask.
     pub fn octets(self, mask: u32) -> [u8; 32]
-        ensures { result ≡ address_octets self mask }
+        ensures { result ≡ address_octets self.layer self.tree (place_of self.place) mask }
     {
         let mut octets = [0u8; 32];
         put(&mut octets, 0, &self.layer.to_be_bytes());

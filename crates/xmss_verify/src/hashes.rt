@@ -2,16 +2,18 @@
 //! are SHA-256 of a number in 32 octets, the key and the message.
 
 ghost use Rattle.std.specs.Prelude.{◌≡◌, ℕ, ◌++◌, length};
-ghost use Rattle.xmss_verify.specs.Octets.{to_byte};
-ghost use Rattle.xmss_verify.specs.Wots.{xor, prf, keyed};
-ghost use Rattle.xmss_verify.specs.Xmss.{message_digest};
+ghost use Rattle.xmss_definitions.specs.Octets.{to_byte, xor};
+ghost use Rattle.xmss_definitions.specs.Address.{only_tree};
+ghost use Rattle.xmss_definitions.specs.Wots.{prf, keyed};
+ghost use Rattle.xmss_definitions.specs.Keys.{message_digest};
+ghost use Rattle.xmss_verify.specs.Places.{place_of};
 
 use crate::address::{Address, Place};
 use sha2::{Digest, Sha256};
 use std::marker::Model;
 
 // A number in 32 octets.
-#[tactic(auto, using(crate::proofs::Octets::small_number))]
+#[tactic(auto, using(xmss_definitions::proofs::Octets::small_number))]
 fn to_byte(number: u32) -> [u8; 32]
     ensures { result ≡ to_byte number 32 }
 {
@@ -33,7 +35,7 @@ pub fn xor(a: &[u8], b: &[u8; 32]) -> [u8; 32]
     out
 }
 
-/// PRF under one SEED. Contracts see the SEED.
+/// PRF under one SEED. Contracts see the one tree that has it.
 ///
 /// `toByte(3, 32) || SEED` is one block of SHA-256, which is hashed once for all addresses.
 #[derive(Drop)]
@@ -43,13 +45,14 @@ pub struct Prf {
 }
 
 impl Model for Prf {
-    ghost use Rattle.std.specs.Prelude.{List, ℕ, ◌++◌};
+    ghost use Rattle.std.specs.Prelude.{◌++◌};
     ghost use Rattle.sha2.specs.Hashers.{Holds256};
-    ghost use Rattle.xmss_verify.specs.Octets.{to_byte};
+    ghost use Rattle.xmss_definitions.specs.Octets.{to_byte};
+    ghost use Rattle.xmss_definitions.specs.Address.{Tree, only_tree};
 
-    ghost Value = { List ℕ };
+    ghost Value = { Tree };
 
-    ghost view = { λ p. p.seed };
+    ghost view = { λ p. only_tree p.seed };
 
     ghost invariant = { λ p. Holds256 p.begun (to_byte 3 32 ++ p.seed) };
 }
@@ -57,7 +60,7 @@ impl Model for Prf {
 impl Prf {
     /// PRF under this SEED.
     pub fn new(seed: &[u8; 32]) -> Prf
-        ensures { result ≡ seed.now }
+        ensures { result ≡ only_tree seed.now }
     {
         let mut begun = Sha256::new();
         begun.update(to_byte(3));
@@ -66,9 +69,9 @@ impl Prf {
     }
 
     /// The value at a place of the one tree with this keyAndMask.
-    #[tactic(auto, unfolding(crate::specs::Wots::prf, crate::specs::Wots::keyed))]
+    #[tactic(auto, unfolding(xmss_definitions::specs::Wots::prf, xmss_definitions::specs::Wots::keyed))]
     pub fn at(&self, place: Place, mask: u32) -> [u8; 32]
-        ensures { result ≡ prf self.now place mask }
+        ensures { result ≡ prf self.now (place_of place) mask }
     {
         let address = Address {
             layer: 0,
@@ -84,7 +87,7 @@ impl Prf {
 }
 
 /// F, with the number 0.
-#[tactic(auto, unfolding(crate::specs::Wots::keyed))]
+#[tactic(auto, unfolding(xmss_definitions::specs::Wots::keyed))]
 pub fn f(key: &[u8; 32], message: &[u8; 32]) -> [u8; 32]
     ensures { result ≡ keyed 0 key.now message.now }
 {
@@ -96,7 +99,7 @@ pub fn f(key: &[u8; 32], message: &[u8; 32]) -> [u8; 32]
 }
 
 /// H of two values, with the number 1.
-#[tactic(auto, unfolding(crate::specs::Wots::keyed))]
+#[tactic(auto, unfolding(xmss_definitions::specs::Wots::keyed))]
 pub fn h(key: &[u8; 32], left: &[u8; 32], right: &[u8; 32]) -> [u8; 32]
     ensures { result ≡ keyed 1 key.now (left.now ++ right.now) }
 {
@@ -110,7 +113,7 @@ pub fn h(key: &[u8; 32], left: &[u8; 32], right: &[u8; 32]) -> [u8; 32]
 
 /// The digest of a message that is signed, by H_msg under `r`, the root and the leaf's number
 /// (section 4.1.9, algorithm 12).
-#[tactic(auto, unfolding(crate::specs::Xmss::message_digest, crate::specs::Wots::keyed))]
+#[tactic(auto, unfolding(xmss_definitions::specs::Keys::message_digest, xmss_definitions::specs::Wots::keyed))]
 pub fn message_digest(r: &[u8], root: &[u8], idx: u32, message: &[u8]) -> [u8; 32]
     ensures { result ≡ message_digest r.now root.now idx message.now }
 {

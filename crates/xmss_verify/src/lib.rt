@@ -11,13 +11,10 @@
 
 pub mod address;
 pub mod hashes;
-#[cfg(test)]
-mod tests;
 pub mod tree;
 pub mod wots;
 mod xmss;
 
-pub use tree::l_tree_ends_in_one;
 pub use xmss::verify;
 
 /// Why a signature does not hold. The first that is so, in this order, is the reason.

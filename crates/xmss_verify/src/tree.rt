@@ -1,18 +1,19 @@
 //! The L-tree over a leaf's chains, the tree's nodes, and the root over a leaf and its path (RFC
 //! 8391, sections 4.1.4, 4.1.5 and 4.1.10). A signer makes the same nodes.
 
-ghost use Rattle.std.specs.Prelude.{◌≡◌, ℕ, List, ◌+◌, ◌-◌, ◌*◌, ◌/◌, ◌^◌, ◌<◌, ◌≤◌, ◌++◌, length, take, drop};
-ghost use Rattle.xmss_verify.specs.Tree.{pair, paired, lifted, l_tree, parent, node_over};
+ghost use Rattle.std.specs.Prelude.{◌≡◌, ℕ, ◌+◌, ◌-◌, ◌*◌, ◌/◌, ◌^◌, ◌<◌, ◌≤◌, ◌++◌, length, take, drop};
+ghost use Rattle.xmss_definitions.specs.Nodes.{pair, paired, l_tree, parent, node_over};
+ghost use Rattle.xmss_verify.specs.Places.{place_of};
 
 use crate::address::Place;
 use crate::hashes::{Prf, h, xor};
 
 /// The node over two nodes (section 4.1.4, algorithm 7).
-#[tactic(auto, unfolding(crate::specs::Tree::pair))]
+#[tactic(auto, unfolding(xmss_definitions::specs::Nodes::pair))]
 pub fn pair(prf: &Prf, place: Place, left: &[u8], right: &[u8]) -> [u8; 32]
     requires left { length left.now ≡ 32 }
     requires right { length right.now ≡ 32 }
-    ensures { result ≡ pair prf.now place left.now right.now }
+    ensures { result ≡ pair prf.now (place_of place) left.now right.now }
 {
     let left = xor(left, &prf.at(place, 1));
     let right = xor(right, &prf.at(place, 2));
@@ -44,7 +45,7 @@ fn pair_up(prf: &Prf, leaf: u32, height: u32, nodes: &mut [[u8; 32]]) -> usize
 
 /// The top of the L-tree over the chain ends of leaf `leaf`, where an odd last node goes up as it
 /// is (section 4.1.5, algorithm 8).
-#[tactic(auto, unfolding(crate::specs::Tree::l_tree))]
+#[tactic(auto, unfolding(xmss_definitions::specs::Nodes::l_tree))]
 pub fn l_tree(prf: &Prf, leaf: u32, ends: [[u8; 32]; 67]) -> [u8; 32]
     ensures { result ≡ l_tree prf.now leaf ends }
 {
@@ -58,7 +59,7 @@ pub fn l_tree(prf: &Prf, leaf: u32, ends: [[u8; 32]; 67]) -> [u8; 32]
 
 // The parent of node `i`, which stands at height `n`, beside its sibling: an odd node is the right
 // child.
-#[tactic(auto, unfolding(crate::specs::Tree::parent))]
+#[tactic(auto, unfolding(xmss_definitions::specs::Nodes::parent))]
 fn parent(prf: &Prf, n: u32, i: u32, value: &[u8; 32], sibling: &[u8]) -> [u8; 32]
     requires { length sibling.now ≡ 32 }
     ensures { result ≡ parent prf.now n i value.now sibling.now }
@@ -76,7 +77,7 @@ fn parent(prf: &Prf, n: u32, i: u32, value: &[u8; 32], sibling: &[u8]) -> [u8; 3
 
 /// The root of a tree of height `H` over leaf `idx`, which has this value (section 4.1.10,
 /// algorithm 13).
-#[tactic(auto, using(crate::proofs::Paths::node_over_none, crate::proofs::Paths::node_over_more))]
+#[tactic(auto, using(xmss_definitions::proofs::Paths::node_over_none, xmss_definitions::proofs::Paths::node_over_more))]
 pub fn root<const H: usize>(prf: &Prf, idx: u32, path: &[u8], leaf: &[u8; 32]) -> [u8; 32]
     requires few { H < 64 }
     requires whole { length path.now ≡ 32 * H }
@@ -90,8 +91,3 @@ pub fn root<const H: usize>(prf: &Prf, idx: u32, path: &[u8], leaf: &[u8; 32]) -
     }
     value
 }
-
-/// The law that the L-tree of 67 nodes is one node after seven heights.
-pub fn l_tree_ends_in_one()
-    ensures { (seed : List ℕ) → (leaf : ℕ) → (nodes : List (List ℕ)) → length nodes ≡ 67 → length (lifted seed leaf nodes 7) ≡ 1 }
-{}

@@ -2,13 +2,13 @@
 //! chains (RFC 8391, sections 2.6 and 3.1). A signer takes the same steps, so they are public.
 
 ghost use Rattle.std.specs.Prelude.{◌≡◌, ℕ, ◌+◌, ◌-◌, ◌*◌, ◌/◌, ◌^◌, ◌<◌, ◌≤◌, length};
-ghost use Rattle.xmss_verify.specs.Wots.{step, chain, digit, lacking, digits, ends};
+ghost use Rattle.xmss_definitions.specs.Wots.{step, chain, digit, lacking, digits, ends};
 
 use crate::address::Place;
 use crate::hashes::{Prf, f, xor};
 
 // One step up a chain, from step `j`.
-#[tactic(auto, unfolding(crate::specs::Wots::step))]
+#[tactic(auto, unfolding(xmss_definitions::specs::Wots::step))]
 fn step(prf: &Prf, leaf: u32, i: u32, j: u32, value: &[u8; 32]) -> [u8; 32]
     ensures { result ≡ step prf.now leaf i j value.now }
 {
@@ -23,7 +23,7 @@ fn step(prf: &Prf, leaf: u32, i: u32, j: u32, value: &[u8; 32]) -> [u8; 32]
 
 /// The value `count` steps up chain `i` of a leaf, from its value `start` at step `from` (section
 /// 3.1.2, algorithm 2).
-#[tactic(auto, using(crate::proofs::Chains::chain_none, crate::proofs::Chains::chain_more))]
+#[tactic(auto, using(xmss_definitions::proofs::Chains::chain_none, xmss_definitions::proofs::Chains::chain_more))]
 pub fn chain(prf: &Prf, leaf: u32, i: u32, from: u32, count: u32, start: &[u8]) -> [u8; 32]
     requires whole { length start.now ≡ 32 }
     requires within { from + count < 256 }
@@ -51,7 +51,7 @@ pub fn digit(s: &[u8], i: usize) -> u8
 }
 
 // What the digits of a digest lack to 15, in all.
-#[tactic(auto, using(crate::proofs::Chains::lacking_none, crate::proofs::Chains::lacking_more))]
+#[tactic(auto, using(xmss_definitions::proofs::Chains::lacking_none, xmss_definitions::proofs::Chains::lacking_more))]
 fn lacking(digest: &[u8; 32]) -> u16
     ensures value { result ≡ lacking digest.now 64 }
     ensures few { result ≤ 960 }
@@ -64,7 +64,7 @@ fn lacking(digest: &[u8; 32]) -> u16
 }
 
 /// The digest followed by its checksum, whose first 67 digits choose the steps (section 3.1.5).
-#[tactic(auto, using(crate::proofs::Octets::two_parts), unfolding(crate::specs::Wots::digits))]
+#[tactic(auto, using(xmss_definitions::proofs::Octets::two_parts), unfolding(xmss_definitions::specs::Wots::digits))]
 pub fn digits(digest: &[u8; 32]) -> [u8; 34]
     ensures { result ≡ digits digest.now }
 {
@@ -76,7 +76,7 @@ pub fn digits(digest: &[u8; 32]) -> [u8; 34]
 }
 
 /// The ends of the chains of the one-time signature `ots` of a digest (section 3.1.6, algorithm 6).
-#[tactic(auto, using(crate::proofs::Chains::ends_none, crate::proofs::Chains::ends_more))]
+#[tactic(auto, using(xmss_definitions::proofs::Chains::ends_none, xmss_definitions::proofs::Chains::ends_more))]
 pub fn ends(prf: &Prf, leaf: u32, digest: &[u8; 32], ots: &[u8]) -> [[u8; 32]; 67]
     requires { length ots.now ≡ 32 * 67 }
     ensures { result ≡ ends prf.now leaf (digits digest.now) ots.now 67 }

@@ -1,7 +1,9 @@
 //! The verdict on a key, a message and a signature (RFC 8391, 4.1.10).
 
 ghost use Rattle.std.specs.Prelude.{◌≡◌, ℕ, true, ◌+◌, ◌*◌, ◌^◌, ◌<◌, ◌≤◌, length};
-ghost use Rattle.xmss_verify.specs.Xmss.{u32_at, root_of, seed_of, is_known, is_signature, root_under, verdict_under, verdict};
+ghost use Rattle.xmss_definitions.specs.Address.{only_tree};
+ghost use Rattle.xmss_definitions.specs.Keys.{u32_at, seed_of};
+ghost use Rattle.xmss_verify.specs.Xmss.{is_known, is_signature, root_under, verdict_under, verdict};
 
 use crate::hashes::{Prf, message_digest};
 use crate::tree::{l_tree, root};
@@ -9,7 +11,7 @@ use crate::wots::ends;
 use crate::{Verdict, Why};
 
 // The number of the four octets from place `at`.
-#[tactic(auto, unfolding(crate::specs::Xmss::u32_at))]
+#[tactic(auto, unfolding(xmss_definitions::specs::Keys::u32_at))]
 fn u32_at(bytes: &[u8], at: usize) -> u32
     requires { at + 4 ≤ length bytes.now }
     ensures { result ≡ u32_at bytes.now at }
@@ -39,7 +41,7 @@ fn is_signature<const H: usize>(signature: &[u8]) -> bool
 // PRF under the key's SEED.
 fn prf_of(key: &[u8]) -> Prf
     requires { length key.now ≡ 68 }
-    ensures { result ≡ seed_of key.now }
+    ensures { result ≡ only_tree (seed_of key.now) }
 {
     let mut seed = [0u8; 32];
     seed.copy_from_slice(&key[36..68]);
@@ -47,7 +49,7 @@ fn prf_of(key: &[u8]) -> Prf
 }
 
 // The root that a signature of height `H` gives.
-#[tactic(auto, unfolding(crate::specs::Xmss::root_under, crate::specs::Xmss::root_from))]
+#[tactic(auto, unfolding(crate::specs::Xmss::root_under, xmss_definitions::specs::Nodes::root_from))]
 fn root_under<const H: usize>(key: &[u8], message: &[u8], signature: &[u8]) -> [u8; 32]
     requires few { H < 31 }
     requires key { length key.now ≡ 68 }

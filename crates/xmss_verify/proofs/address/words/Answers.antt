@@ -1,7 +1,7 @@
 use Rattle.std.proofs.Common.{refl}
 use Rattle.std.specs.Prelude.{replicate}
-use Rattle.xmss_verify.specs.Address.{word}
-use Rattle.xmss_verify.proofs.Parts.{four_parts}
+use Rattle.xmss_definitions.specs.Address.{word}
+use Rattle.xmss_definitions.proofs.Parts.{four_parts}
 use Rattle.xmss_verify.proofs.address.words.Goals as goal
 
 pub returns : goal.returns

@@ -1,5 +1,5 @@
 use Rattle.std.proofs.Common.{arith}
-use Rattle.xmss_verify.proofs.Octets.{xor_is}
+use Rattle.xmss_definitions.proofs.Octets.{xor_is}
 use Rattle.xmss_verify.proofs.hashes.xor.Goals as goal
 
 pub returns : goal.returns

@@ -1,6 +1,6 @@
 use Rattle.std.proofs.Common.{◌≡◌, drop, length, sym, refl, ◌∙◌, arith, length-append, length-drop, length-take, lit≤, rules}
 use Rattle.std.proofs.lemmas.List.{take-append-le, take_all}
-use Rattle.xmss_verify.proofs.Paths.{lifted_none, lifted_more, l_tree_is}
+use Rattle.xmss_definitions.proofs.Paths.{lifted_none, lifted_more, l_tree_is}
 use Rattle.xmss_verify.proofs.tree.l_tree.Goals as goal
 
 pub heights-init : goal.heights-init

@@ -1,5 +1,5 @@
 use Rattle.std.proofs.Common.{◌≡◌, ◌≤◌, take, length}
-use Rattle.xmss_verify.specs.Tree.{lifted}
+use Rattle.xmss_definitions.specs.Nodes.{lifted}
 use Rattle.xmss_verify.proofs.tree.l_tree.Given as goal
 
 abbrev pub invariant-heights : goal.invariant-heights

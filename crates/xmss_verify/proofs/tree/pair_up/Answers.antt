@@ -1,6 +1,6 @@
 use Rattle.std.proofs.Common.{◌≡◌, ◌*◌, ◌+◌, ◌-◌, ◌/◌, length, sym, refl, ◌∙◌, arith}
 use Rattle.std.proofs.Math.ListN.{length-set}
-use Rattle.xmss_verify.proofs.Paths.{pair_step, pair_end_even, pair_end_odd}
+use Rattle.xmss_definitions.proofs.Paths.{pair_step, pair_end_even, pair_end_odd}
 use Rattle.xmss_verify.proofs.tree.pair_up.Goals as goal
 use Rattle.xmss_verify.proofs.tree.pair_up.Goals.{then-count-eq1, else-count-eq1}
 

@@ -1,5 +1,5 @@
 use Rattle.std.proofs.Common.{◌≡◌, ◌*◌, ◌++◌, take, drop, length}
-use Rattle.xmss_verify.specs.Tree.{paired}
+use Rattle.xmss_definitions.specs.Nodes.{paired}
 use Rattle.xmss_verify.proofs.tree.pair_up.Given as goal
 
 abbrev pub invariant-pairs : goal.invariant-pairs

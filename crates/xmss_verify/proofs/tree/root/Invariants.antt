@@ -1,5 +1,5 @@
 use Rattle.std.proofs.Common.{◌≡◌, ◌/◌, ◌^◌}
-use Rattle.xmss_verify.specs.Tree.{node_over}
+use Rattle.xmss_definitions.specs.Nodes.{node_over}
 use Rattle.xmss_verify.proofs.tree.root.Given as goal
 
 abbrev pub invariant-heights : goal.invariant-heights

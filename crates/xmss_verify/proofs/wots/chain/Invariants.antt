@@ -1,5 +1,5 @@
 use Rattle.std.proofs.Common.{◌≡◌}
-use Rattle.xmss_verify.specs.Wots.{chain}
+use Rattle.xmss_definitions.specs.Wots.{chain}
 use Rattle.xmss_verify.proofs.wots.chain.Given as goal
 
 abbrev pub invariant-steps : goal.invariant-steps

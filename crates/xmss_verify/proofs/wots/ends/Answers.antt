@@ -1,8 +1,9 @@
 use Rattle.std.proofs.Common.{◌≡◌, ◌+◌, ◌-◌, ◌*◌, ◌<◌, length, refl, arith}
 use Rattle.std.proofs.lemmas.List.{take_more_set}
 use Rattle.std.proofs.Math.ListN.{length-set}
-use Rattle.xmss_verify.specs.Wots.{chain, digit, value_at}
-use Rattle.xmss_verify.proofs.Chains.{ends_more}
+use Rattle.xmss_definitions.specs.Octets.{value_at}
+use Rattle.xmss_definitions.specs.Wots.{chain, digit}
+use Rattle.xmss_definitions.proofs.Chains.{ends_more}
 use Rattle.xmss_verify.proofs.wots.ends.Goals as goal
 
 pub chains-preserved : goal.chains-preserved

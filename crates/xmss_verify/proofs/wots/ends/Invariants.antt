@@ -1,5 +1,5 @@
 use Rattle.std.proofs.Common.{◌≡◌, take, length}
-use Rattle.xmss_verify.specs.Wots.{ends}
+use Rattle.xmss_definitions.specs.Wots.{ends}
 use Rattle.xmss_verify.proofs.wots.ends.Given as goal
 
 abbrev pub invariant-chains : goal.invariant-chains

@@ -1,0 +1,4 @@
+pub mod Octets
+pub mod Chains
+pub mod Paths
+pub mod Parts

@@ -1,0 +1,5 @@
+pub mod Octets
+pub mod Address
+pub mod Wots
+pub mod Nodes
+pub mod Keys
