@@ -4,7 +4,7 @@ use Rattle.std.proofs.lemmas.Int.{ints}
 use Rattle.std.proofs.lemmas.Bool.{cases_eq, cases_lt}
 use Rattle.std.proofs.lemmas.Option.{slice_get_within}
 use Rattle.algorithms.specs.declared.signature_kinds.SignatureKind.{SignatureKind}
-use Rattle.algorithms.specs.declared.signature_kinds.SignatureKind.TheVariants.{Hss, Xmss}
+use Rattle.algorithms.specs.declared.signature_kinds.SignatureKind.TheVariants.{Hss, Xmss, XmssMt}
 use Rattle.algorithms.specs.declared.digest_kinds.DigestKind.{DigestKind}
 use Rattle.algorithms.specs.declared.digest_kinds.DigestKind.TheVariants.{Sha256, Sha384, Sha512}
 use Rattle.lms_verify.specs.declared.Verdict as hss
@@ -13,6 +13,9 @@ use Rattle.lms_verify.specs.Hss.{verdict as hss_verdict}
 use Rattle.xmss_verify.specs.declared.Verdict as xmss
 use Rattle.xmss_verify.specs.declared.Verdict.TheVariants as xmss_verdicts
 use Rattle.xmss_verify.specs.Xmss.{verdict as xmss_verdict}
+use Rattle.xmssmt_verify.specs.declared.Verdict as xmssmt
+use Rattle.xmssmt_verify.specs.declared.Verdict.TheVariants as xmssmt_verdicts
+use Rattle.xmssmt_verify.specs.XmssMt.{verdict as xmssmt_verdict}
 use Rattle.algorithms.specs.SignatureKind.{Holds}
 use Rattle.acceptance.specs.Certificates.{Certificate, Crl, Part, certificate, crl, other, Member, Signature, Key, Revoked, Verifies}
 use Rattle.policy_rules.specs.Rules.{Rules, IsBefore, AcceptsKind, AcceptsDigest, IsKindRule, IsDigestRule}
@@ -70,6 +73,11 @@ decide_kind Hss Hss = inl refl
 decide_kind Hss Xmss = inr (λ h. cc)
 decide_kind Xmss Hss = inr (λ h. cc)
 decide_kind Xmss Xmss = inl refl
+decide_kind Hss XmssMt = inr (λ h. cc)
+decide_kind Xmss XmssMt = inr (λ h. cc)
+decide_kind XmssMt Hss = inr (λ h. cc)
+decide_kind XmssMt Xmss = inr (λ h. cc)
+decide_kind XmssMt XmssMt = inl refl
 
 decide_digest : (a b : DigestKind) → Decision (a ≡ b)
 decide_digest Sha256 Sha256 = inl refl
@@ -165,9 +173,14 @@ decide_xmss : (v : xmss.Verdict) → Decision (v ≡ xmss_verdicts.Good)
 decide_xmss xmss_verdicts.Good = inl refl
 decide_xmss _ = inr (λ h. cc)
 
+decide_xmssmt : (v : xmssmt.Verdict) → Decision (v ≡ xmssmt_verdicts.Good)
+decide_xmssmt xmssmt_verdicts.Good = inl refl
+decide_xmssmt _ = inr (λ h. cc)
+
 decide_holds : (kind : SignatureKind) (key message signature : List ℕ) → Decision (Holds kind key message signature)
 decide_holds Hss key message signature = decide_hss (hss_verdict key message signature)
 decide_holds Xmss key message signature = decide_xmss (xmss_verdict key message signature)
+decide_holds XmssMt key message signature = decide_xmssmt (xmssmt_verdict key message signature)
 
 decide_verifies : (key : Key) (signature : Signature) → Decision (Verifies key signature)
 decide_verifies key signature =

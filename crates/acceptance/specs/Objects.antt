@@ -4,7 +4,7 @@ use Rattle.std.specs.Prelude.{ℕ, List, map, Option, Some, None, option_map, if
 use Rattle.std.specs.Str.{bytes_eq}
 use Rattle.algorithms.specs.SignatureKind.{oid_of}
 use Rattle.algorithms.specs.declared.signature_kinds.SignatureKind.{SignatureKind}
-use Rattle.algorithms.specs.declared.signature_kinds.SignatureKind.TheVariants.{Hss, Xmss}
+use Rattle.algorithms.specs.declared.signature_kinds.SignatureKind.TheVariants.{Hss, Xmss, XmssMt}
 use Rattle.der_values.specs.Element.{Element}
 use Rattle.der_values.specs.Elements.{elements}
 use Rattle.x509_certs.specs.Certificates as certificates
@@ -18,7 +18,7 @@ use Rattle.acceptance.specs.Tokens.{Token}
 
 -- the kind with this object identifier, by its content octets (RFC 8708, section 3; RFC 9802, section 3)
 unfoldable pub kind_named : List ℕ → Option SignatureKind
-kind_named oid = if bytes_eq oid (oid_of Hss) then Some Hss else if bytes_eq oid (oid_of Xmss) then Some Xmss else None
+kind_named oid = if bytes_eq oid (oid_of Hss) then Some Hss else if bytes_eq oid (oid_of Xmss) then Some Xmss else if bytes_eq oid (oid_of XmssMt) then Some XmssMt else None
 
 -- a certificate (RFC 5280, 4.1 and 4.2)
 unfoldable pub certificate_of : List ℕ → Certificate

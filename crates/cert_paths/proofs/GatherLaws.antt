@@ -3,13 +3,14 @@ use Rattle.std.proofs.Common.{◌≡◌, ℕ, zero, suc, ◌+◌, ◌≤◌, Lis
 use Rattle.std.proofs.lemmas.Bool.{cases_lt}
 use Rattle.std.proofs.lemmas.Option.{slice_get_within}
 use Rattle.acceptance.specs.Certificates.{Part, Certificate, Crl, Member, certificate, crl, other}
-use Rattle.acceptance.specs.Walks.{HasCertificate, HasCrl, IsSigned, IsCrlOf}
+use Rattle.acceptance.specs.Walks.{HasCertificate, HasCrl}
 use Rattle.cert_paths.specs.declared.rows.CertRow.{CertRow}
 use Rattle.cert_paths.specs.declared.rows.ListRow.{ListRow}
 use Rattle.cert_paths.specs.Pool.{numbers_from, part_numbers}
 use Rattle.cert_paths.specs.declared.rows.IssuerRow.{IssuerRow}
+use Rattle.cert_paths.specs.Reached.{IsSignedTable, IsClosed, IsSpoken}
 use Rattle.cert_paths.specs.Tables.{IsTableOf}
-use Rattle.cert_paths.specs.Rows.{member_of, list_of, member_at, issuer_at, list_at, dates_of, AreCertificates, AreLists, AreCertificatesTo, AreListsTo}
+use Rattle.cert_paths.specs.Rows.{member_of, list_of, dates_of, AreCertificates, AreLists, AreCertificatesTo, AreListsTo}
 use Rattle.cert_paths.proofs.HeldLaws.{get_before, get_last, get_cases}
 
 -- each part has a place among the parts
@@ -142,21 +143,23 @@ lists_all pool rows n le so_far = record {
 }
 
 -- tables over lists that are equal
-pub signed_over : (cs certs : List CertRow) (is issuers : List IssuerRow) (bits : List (Vec Bool Global)) → cs ≡ certs → is ≡ issuers →
-    IsTableOf (λ i j. IsSigned (member_at cs i).certificate (issuer_at is j)) (length cs) (length is) bits →
-    IsTableOf (λ i j. IsSigned (member_at certs i).certificate (issuer_at issuers j)) (length certs) (length issuers) bits
-signed_over cs certs is issuers bits e f t =
-    let P : List CertRow → Type 0 = λ xs. IsTableOf (λ i j. IsSigned (member_at xs i).certificate (issuer_at issuers j)) (length xs) (length issuers) bits in
-    let Q : List IssuerRow → Type 0 = λ ys. IsTableOf (λ i j. IsSigned (member_at cs i).certificate (issuer_at ys j)) (length cs) (length ys) bits in
-    subst P e (subst Q f t)
+pub signed_over : (cs certs : List CertRow) (is issuers : List IssuerRow) (reached : List Bool) (bits : List (Vec Bool Global)) → cs ≡ certs → is ≡ issuers →
+    IsSignedTable cs is reached bits → IsSignedTable certs issuers reached bits
+signed_over cs certs is issuers reached bits e f t =
+    subst (λ (xs : List CertRow). IsSignedTable xs issuers reached bits) e (subst (λ (ys : List IssuerRow). IsSignedTable cs ys reached bits) f t)
 
-pub speaks_over : (ls lists : List ListRow) (is issuers : List IssuerRow) (bits : List (Vec Bool Global)) → ls ≡ lists → is ≡ issuers →
-    IsTableOf (λ i j. IsCrlOf (issuer_at is j) (list_at ls i)) (length ls) (length is) bits →
-    IsTableOf (λ i j. IsCrlOf (issuer_at issuers j) (list_at lists i)) (length lists) (length issuers) bits
-speaks_over ls lists is issuers bits e f t =
-    let P : List ListRow → Type 0 = λ xs. IsTableOf (λ i j. IsCrlOf (issuer_at issuers j) (list_at xs i)) (length xs) (length issuers) bits in
-    let Q : List IssuerRow → Type 0 = λ ys. IsTableOf (λ i j. IsCrlOf (issuer_at ys j) (list_at ls i)) (length ls) (length ys) bits in
-    subst P e (subst Q f t)
+pub closed_over : (cs certs : List CertRow) (is issuers : List IssuerRow) (reached : List Bool) (bits : List (Vec Bool Global)) → cs ≡ certs → is ≡ issuers →
+    IsClosed (length cs) (length is) reached bits → IsClosed (length certs) (length issuers) reached bits
+closed_over cs certs is issuers reached bits e f t =
+    subst (λ (xs : List CertRow). IsClosed (length xs) (length issuers) reached bits) e (subst (λ (ys : List IssuerRow). IsClosed (length cs) (length ys) reached bits) f t)
+
+pub speaks_over : (ls lists : List ListRow) (is issuers : List IssuerRow) (rs reached : List Bool) (bits : List (Vec Bool Global)) → ls ≡ lists → is ≡ issuers → rs ≡ reached →
+    IsTableOf (IsSpoken ls is rs) (length ls) (length is) bits → IsTableOf (IsSpoken lists issuers reached) (length lists) (length issuers) bits
+speaks_over ls lists is issuers rs reached bits e f g t =
+    let P : List ListRow → Type 0 = λ xs. IsTableOf (IsSpoken xs issuers reached) (length xs) (length issuers) bits in
+    let Q : List IssuerRow → Type 0 = λ ys. IsTableOf (IsSpoken ls ys reached) (length ls) (length ys) bits in
+    let R : List Bool → Type 0 = λ zs. IsTableOf (IsSpoken ls is zs) (length ls) (length is) bits in
+    subst P e (subst Q f (subst R g t))
 
 pub dates_over : (cs certs : List CertRow) (ls lists : List ListRow) (ds : List (List (Option ℤ))) → cs ≡ certs → ls ≡ lists →
     ds ≡ map (λ c. dates_of c ls) cs → ds ≡ map (λ c. dates_of c lists) certs

@@ -1,7 +1,7 @@
-pub mod NotBoth
 pub mod HeldLaws
 pub mod PoolLaws
 pub mod TableLaws
+pub mod ReachLaws
 pub mod GatherLaws
 pub mod StatusLaws
 pub mod Steps

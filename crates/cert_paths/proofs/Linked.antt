@@ -7,7 +7,7 @@ use Rattle.x509_certs.specs.Certificates as certificates
 use Rattle.x509_certs.specs.Lists as lists
 use Rattle.x509_certs.specs.View.{certificate_bytes, list_bytes}
 use Rattle.acceptance.specs.Certificates.{Certificate, Crl, Member}
-use Rattle.acceptance.specs.Objects.{certificate_of}
+use Rattle.acceptance.specs.Objects.{certificate_of, crl_of}
 use Rattle.acceptance.specs.Policy.{anchors_of}
 use Rattle.acceptance.specs.Walks.{HasCertificate, IsSelfIssued, IsWithin, IsSigned, IsCrlOf, IsCurrentByCrl, IsRevokedByCrl, IsIssued, IsComplete, IsAccepted, IsWalkComplete, HasWalk}
 use Rattle.cert_paths.specs.declared.links.Tables.{Tables}
@@ -17,13 +17,13 @@ use Rattle.cert_paths.specs.declared.rows.IssuerRow.{IssuerRow}
 use Rattle.cert_paths.specs.declared.rows.ListRow.{ListRow}
 use Rattle.cert_paths.specs.Chart.{issuing_of, is_within, limit_in, counts_in}
 use Rattle.cert_paths.specs.Numbered.{HasNumberedWalk}
-use Rattle.cert_paths.specs.Rows.{member_of, issuer_of, list_of, member_in, issuer_in, list_in, member_at, issuer_at, dates_of, IsInTime, HasBytes}
+use Rattle.cert_paths.specs.Rows.{member_of, issuer_of, list_of, member_in, issuer_in, list_in, member_at, issuer_at, date_of, dates_of, IsInTime, HasBytes}
 use Rattle.cert_paths.specs.Speaks.{AreMembers, SpeaksOf}
 use Rattle.cert_paths.specs.Status.{IsUntil, IsBy, IsListCurrent, IsCurrentAt, SomeCurrent, SomeRevoked, dates_in, HaveTimes, HaveTimesOf}
-use Rattle.cert_paths.specs.Tables.{bit, IsTableOf}
+use Rattle.cert_paths.specs.Tables.{bit, flag, IsTableOf}
 use Rattle.cert_paths.specs.Tied.{AreTied, IsLinkedBy, IsCompleteBy}
 use Rattle.cert_paths.proofs.Numbers.{get_map, got_map, at_some, numbered_walks}
-use Rattle.cert_paths.proofs.Revoked.{by_revoked}
+use Rattle.cert_paths.proofs.Revoked.{by_revoked, by_date, dated_by}
 
 both_true : (a b : Bool) → IsTrue (a && b) ↔ (IsTrue a × IsTrue b)
 both_true true b = (λ h. (refl, h), λ h. h.1)
@@ -89,24 +89,28 @@ module _ (t : Tables) (tied : AreTied t) where
     issuer_here : issuer_at t.issuers.items j ≡ issuer_of issuer
     issuer_here = ap issuer_in at_j
 
-    signed_here : IsTrue (bit t.signed.items i j) ↔ IsSigned (member_of row).certificate (issuer_of issuer)
+    abbrev IsReached : Type 0
+    IsReached = IsTrue (flag t.reached.items j)
+
+    signed_here : IsTrue (bit t.signed.items i j) ↔ (IsReached × IsSigned (member_of row).certificate (issuer_of issuer))
     signed_here =
         let both = tied.signed.right i j i_in j_in in
-        let P : Member → Type 0 = λ m. IsTrue (bit t.signed.items i j) ↔ IsSigned m.certificate (issuer_of issuer) in
-        let Q : Certificate → Type 0 = λ x. IsTrue (bit t.signed.items i j) ↔ IsSigned (member_at t.certs.items i).certificate x in
+        let P : Member → Type 0 = λ m. IsTrue (bit t.signed.items i j) ↔ (IsReached × IsSigned m.certificate (issuer_of issuer)) in
+        let Q : Certificate → Type 0 = λ x. IsTrue (bit t.signed.items i j) ↔ (IsReached × IsSigned (member_at t.certs.items i).certificate x) in
         subst P member_here (subst Q issuer_here both)
 
-    speaks_here : (k : ℕ) (list : ListRow) → slice_get t.lists.items k ≡ Some list → (IsTrue (bit t.speaks.items k j) ↔ IsCrlOf (issuer_of issuer) (list_of list))
-    speaks_here k list at =
+    speaks_here : IsReached → (k : ℕ) (list : ListRow) → slice_get t.lists.items k ≡ Some list → (IsTrue (bit t.speaks.items k j) ↔ IsCrlOf (issuer_of issuer) (list_of list))
+    speaks_here reached k list at =
         let both = tied.speaks.right k j (slice_get_within t.lists.items k list at) j_in in
-        let P : Certificate → Type 0 = λ x. IsTrue (bit t.speaks.items k j) ↔ IsCrlOf x (list_of list) in
-        let Q : Crl → Type 0 = λ l. IsTrue (bit t.speaks.items k j) ↔ IsCrlOf (issuer_at t.issuers.items j) l in
-        subst P issuer_here (subst Q (ap list_in at) both)
+        let P : Certificate → Type 0 = λ x. IsTrue (bit t.speaks.items k j) ↔ (IsReached × IsCrlOf x (list_of list)) in
+        let Q : Crl → Type 0 = λ l. IsTrue (bit t.speaks.items k j) ↔ (IsReached × IsCrlOf (issuer_at t.issuers.items j) l) in
+        let here = subst P issuer_here (subst Q (ap list_in at) both) in
+        (λ h. (here.0 h).1, λ h. here.1 (reached, h))
 
-    current_here : (times : List ℤ) (at : ℤ) →
+    current_here : IsReached → (times : List ℤ) (at : ℤ) →
         (SomeCurrent (rules t.policy.now) times at (member_of row).certificate.not_after t.lists.items t.speaks.items j
         ↔ IsCurrentByCrl t.pool.now (rules t.policy.now) times at (member_of row).certificate (issuer_of issuer))
-    current_here times at = (
+    current_here reached times at = (
       λ h.
           let (k, lt, speaks, current_k) = h in
           let (list, at_k) = at_some t.lists.items k lt in
@@ -117,7 +121,7 @@ module _ (t : Tables) (tied : AreTied t) where
             number = list.object.number;
             list = list_of list;
             there = tied.lists.there k list at_k;
-            speaks = (speaks_here k list at_k).0 speaks;
+            speaks = (speaks_here reached k list at_k).0 speaks;
             kind = current.kind;
             next = next;
             has_next = has_next;
@@ -133,7 +137,7 @@ module _ (t : Tables) (tied : AreTied t) where
           let C : Option ListRow → Type 0 = λ o. IsCurrentAt (rules t.policy.now) times at (member_of row).certificate.not_after o in (
             k,
             slice_get_within t.lists.items k list at_k,
-            (speaks_here k list at_k).1 (subst (IsCrlOf (issuer_of issuer)) (sym is) h.speaks),
+            (speaks_here reached k list at_k).1 (subst (IsCrlOf (issuer_of issuer)) (sym is) h.speaks),
             subst C (sym at_k) (subst Q (sym is) (subst P (sym number) current)),
           ),
     )
@@ -146,30 +150,38 @@ module _ (t : Tables) (tied : AreTied t) where
         dates_at (slice_get t.dates.items i) (dates_of row t.lists.items) (got_map (λ d. d.items) t.dates.items i (dates_of row t.lists.items) there)
 
     date_here : (k : ℕ) (list : ListRow) → slice_get t.lists.items k ≡ Some list →
-        slice_index_or (dates_in (slice_get t.dates.items i)) k None ≡ lists.revoked (certificates.serial (certificate_bytes row.certificate)) (list_bytes list.list)
+        slice_index_or (dates_in (slice_get t.dates.items i)) k None ≡ date_of (certificate_bytes row.certificate) (list_bytes list.list)
     date_here k list at =
-        let listed = λ (l : ListRow). lists.revoked (certificates.serial (certificate_bytes row.certificate)) (list_bytes l.list) in
+        let listed = λ (l : ListRow). date_of (certificate_bytes row.certificate) (list_bytes l.list) in
         ap (λ (ds : List (Option ℤ)). slice_index_or ds k None) dates_here
         ∙ get_or_from_slice_get (map listed t.lists.items) k (listed list) None (get_map listed t.lists.items k list at)
+
+    dates_long : length (dates_in (slice_get t.dates.items i)) ≡ length t.lists.items
+    dates_long = ap length dates_here ∙ length-map t.lists.items (λ (l : ListRow). date_of (certificate_bytes row.certificate) (list_bytes l.list))
 
     serial_here : (member_of row).certificate.serial ≡ certificates.serial (certificate_bytes row.certificate)
     unfolding certificate_of
     serial_here = refl
 
-    revoked_here : (at : ℤ) →
+    names_here : (list : ListRow) → IsSigned (member_of row).certificate (issuer_of issuer) → IsCrlOf (issuer_of issuer) (list_of list) →
+        lists.list_issuer (list_bytes list.list) ≡ certificates.issuer (certificate_bytes row.certificate)
+    unfolding certificate_of crl_of
+    names_here list signed speaks = speaks.named ∙ sym signed.named
+
+    revoked_here : IsReached → IsSigned (member_of row).certificate (issuer_of issuer) → (at : ℤ) →
         (SomeRevoked (dates_in (slice_get t.dates.items i)) t.speaks.items j at ↔ IsRevokedByCrl t.pool.now at (member_of row).certificate (issuer_of issuer))
-    revoked_here at = (
+    revoked_here reached signed at = (
       λ h.
           let (k, lt, by, speaks) = h in
-          let long : length (dates_in (slice_get t.dates.items i)) ≡ length t.lists.items =
-          ap length dates_here ∙ length-map t.lists.items (λ (l : ListRow). lists.revoked (certificates.serial (certificate_bytes row.certificate)) (list_bytes l.list)) in
+          let long = dates_long in
           let (list, at_k) = at_some t.lists.items k (omega arith) in
-          let (entry, listed, (serial, early)) = (by_revoked (certificates.serial (certificate_bytes row.certificate)) at (list_bytes list.list)).0 (subst (IsBy at) (date_here k list at_k) by) in
+          let dated = by_date (certificate_bytes row.certificate) (list_bytes list.list) at (subst (IsBy at) (date_here k list at_k) by) in
+          let (entry, listed, (serial, early)) = (by_revoked (certificates.serial (certificate_bytes row.certificate)) at (list_bytes list.list)).0 dated in
           record {
             number = list.object.number;
             list = list_of list;
             there = tied.lists.there k list at_k;
-            speaks = (speaks_here k list at_k).0 speaks;
+            speaks = (speaks_here reached k list at_k).0 speaks;
             entry = entry;
             listed = listed;
             serial = serial ∙ sym serial_here;
@@ -177,60 +189,67 @@ module _ (t : Tables) (tied : AreTied t) where
           },
       λ h.
           let (k, list, at_k, number, is) = tied.lists.each h.number h.list h.there in
-          let long : length (dates_in (slice_get t.dates.items i)) ≡ length t.lists.items =
-          ap length dates_here ∙ length-map t.lists.items (λ (l : ListRow). lists.revoked (certificates.serial (certificate_bytes row.certificate)) (list_bytes l.list)) in
+          let long = dates_long in
           let within = slice_get_within t.lists.items k list at_k in
+          let speaks : IsCrlOf (issuer_of issuer) (list_of list) = subst (IsCrlOf (issuer_of issuer)) (sym is) h.speaks in
           let has : Contains (list_of list).entries h.entry = subst (λ (l : Crl). Contains l.entries h.entry) (sym is) h.listed in
           let by : IsBy at (lists.revoked (certificates.serial (certificate_bytes row.certificate)) (list_bytes list.list)) =
           (by_revoked (certificates.serial (certificate_bytes row.certificate)) at (list_bytes list.list)).1 (h.entry, has, (h.serial ∙ serial_here, h.by_then)) in
-          (k, omega arith, subst (IsBy at) (sym (date_here k list at_k)) by, (speaks_here k list at_k).1 (subst (IsCrlOf (issuer_of issuer)) (sym is) h.speaks)),
+          let dated = dated_by (certificate_bytes row.certificate) (list_bytes list.list) at (names_here list signed speaks) by in
+          (k, omega arith, subst (IsBy at) (sym (date_here k list at_k)) dated, (speaks_here reached k list at_k).1 speaks),
     )
 
     linked_here : (times : List ℤ) (low at : ℤ) (counted : ℕ) → (IsTrue (is_within counted issuer.path_len) ↔ IsWithin counted (issuer_of issuer).path_len) →
         ((IsLinkedBy t times low at i j × IsTrue (is_within counted issuer.path_len))
-        ↔ IsIssued t.pool.now (rules t.policy.now) times low at counted (member_of row) (issuer_of issuer))
+        ↔ (IsReached × IsIssued t.pool.now (rules t.policy.now) times low at counted (member_of row) (issuer_of issuer)))
     linked_here times low at counted short = (
       λ h.
           let in_time : IsInTime (rules t.policy.now) times low at (member_of row) = subst (IsInTime (rules t.policy.now) times low at) member_here h.0.in_time in
           let P : Member → Type 0 = λ m. SomeCurrent (rules t.policy.now) times at m.certificate.not_after t.lists.items t.speaks.items j in
-          record {
-            below = record { signed = signed_here.0 h.0.signed; short = short.0 h.1 };
-            kind = in_time.kind;
-            begun = in_time.begun;
-            lasts = in_time.lasts;
-            current = (current_here times at).0 (subst P member_here h.0.current);
-            unrevoked = λ r. h.0.unrevoked ((revoked_here at).1 r);
-          },
+          let signed = signed_here.0 h.0.signed in (
+            signed.0,
+            record {
+              below = record { signed = signed.1; short = short.0 h.1 };
+              kind = in_time.kind;
+              begun = in_time.begun;
+              lasts = in_time.lasts;
+              current = (current_here signed.0 times at).0 (subst P member_here h.0.current);
+              unrevoked = λ r. h.0.unrevoked ((revoked_here signed.0 signed.1 at).1 r);
+            },
+          ),
       λ h.
           let P : Member → Type 0 = λ m. SomeCurrent (rules t.policy.now) times at m.certificate.not_after t.lists.items t.speaks.items j in
-          let in_time : IsInTime (rules t.policy.now) times low at (member_of row) = record { kind = h.kind; begun = h.begun; lasts = h.lasts } in (
+          let in_time : IsInTime (rules t.policy.now) times low at (member_of row) = record { kind = h.1.kind; begun = h.1.begun; lasts = h.1.lasts } in (
             record {
-              signed = signed_here.1 h.below.signed;
+              signed = signed_here.1 (h.0, h.1.below.signed);
               in_time = subst (IsInTime (rules t.policy.now) times low at) (sym member_here) in_time;
-              current = subst P (sym member_here) ((current_here times at).1 h.current);
-              unrevoked = λ r. h.unrevoked ((revoked_here at).0 r);
+              current = subst P (sym member_here) ((current_here h.0 times at).1 h.1.current);
+              unrevoked = λ r. h.1.unrevoked ((revoked_here h.0 h.1.below.signed at).0 r);
             },
-            short.1 h.below.short,
+            short.1 h.1.below.short,
           ),
     )
 
     complete_here : (counted : ℕ) → (IsTrue (is_within counted issuer.path_len) ↔ IsWithin counted (issuer_of issuer).path_len) →
-        ((IsCompleteBy t i j × IsTrue (is_within counted issuer.path_len)) ↔ IsComplete t.pool.now counted (member_of row) (issuer_of issuer))
+        ((IsCompleteBy t i j × IsTrue (is_within counted issuer.path_len)) ↔ (IsReached × IsComplete t.pool.now counted (member_of row) (issuer_of issuer)))
     complete_here counted short = (
       λ h.
           let (k, lt, speaks) = h.0.status in
           let (list, at_k) = at_some t.lists.items k lt in
-          record {
-            below = record { signed = signed_here.0 h.0.signed; short = short.0 h.1 };
-            status = record { number = list.object.number; list = list_of list; there = tied.lists.there k list at_k; speaks = (speaks_here k list at_k).0 speaks };
-          },
-      λ h.
-          let (k, list, at_k, number, is) = tied.lists.each h.status.number h.status.list h.status.there in (
+          let signed = signed_here.0 h.0.signed in (
+            signed.0,
             record {
-              signed = signed_here.1 h.below.signed;
-              status = (k, slice_get_within t.lists.items k list at_k, (speaks_here k list at_k).1 (subst (IsCrlOf (issuer_of issuer)) (sym is) h.status.speaks));
+              below = record { signed = signed.1; short = short.0 h.1 };
+              status = record { number = list.object.number; list = list_of list; there = tied.lists.there k list at_k; speaks = (speaks_here signed.0 k list at_k).0 speaks };
             },
-            short.1 h.below.short,
+          ),
+      λ h.
+          let (k, list, at_k, number, is) = tied.lists.each h.1.status.number h.1.status.list h.1.status.there in (
+            record {
+              signed = signed_here.1 (h.0, h.1.below.signed);
+              status = (k, slice_get_within t.lists.items k list at_k, (speaks_here h.0 k list at_k).1 (subst (IsCrlOf (issuer_of issuer)) (sym is) h.1.status.speaks));
+            },
+            short.1 h.1.below.short,
           ),
     )
 
@@ -239,12 +258,31 @@ module _ (t : Tables) (tied : AreTied t) where
       let P : Option ℕ → Type 0 = λ o. IsTrue (is_within counted row.path_len) ↔ IsWithin counted o in
       subst P row.length_is (within_is counted row.path_len)
 
+  pub few_here : (length t.certs.items < 2 ^ 32) × (length t.certs.items ≤ length t.issuers.items)
+  few_here =
+      let few = tied.few in
+      let reach = reach_is in
+      let l = length-append (map (λ (m : Member). m.certificate) members) (anchors_of (rules t.policy.now)) in
+      let c = length-map members (λ (m : Member). m.certificate) in
+      let r = length-map t.certs.items member_of in
+      (few, omega arith)
+
   module _ (chart : Chart) (certs_is : chart.certs.now ≡ t.certs.items) (issuers_is : chart.issuers.now ≡ t.issuers.items)
       (Linked : ℕ → ℕ → Type 0) (link : ℕ → Member → Certificate → Type 0)
       (table : IsTableOf Linked (length t.certs.items) (length t.issuers.items) chart.bits.now)
       (here : (i j counted : ℕ) (row : CertRow) (issuer : IssuerRow) → slice_get t.certs.items i ≡ Some row → slice_get t.issuers.items j ≡ Some issuer →
-      ((Linked i j × IsTrue (is_within counted issuer.path_len)) ↔ link counted (member_of row) (issuer_of issuer))) where
-    speaks_of : SpeaksOf (issuing_of chart) link members (anchors_of (rules t.policy.now))
+      ((Linked i j × IsTrue (is_within counted issuer.path_len)) ↔ (IsTrue (flag t.reached.items j) × link counted (member_of row) (issuer_of issuer))))
+      (signed : (i j : ℕ) → Linked i j → IsTrue (bit t.signed.items i j)) where
+    abbrev Reached : ℕ → Type 0
+    Reached j = IsTrue (flag t.reached.items j)
+
+    size_is : length chart.certs.now ≡ length t.certs.items
+    size_is = ap length certs_is
+
+    columns_are : length chart.issuers.now ≡ length t.issuers.items
+    columns_are = ap length issuers_is
+
+    speaks_of : SpeaksOf (issuing_of chart) link Reached members (anchors_of (rules t.policy.now))
     speaks_of = record {
       size = ap length certs_is ∙ sym (length-map t.certs.items member_of);
       reach = ap length issuers_is ∙ reach_is;
@@ -255,10 +293,10 @@ module _ (t : Tables) (tied : AreTied t) where
           let bits = table.right c j (slice_get_within t.certs.items c row at_c) (slice_get_within t.issuers.items j issuer at_j) in
           let both = both_true (bit chart.bits.now c j) (is_within counted issuer.path_len) in
           let holds = here c j counted row issuer at_c at_j in
-          let G : Option ℕ → Type 0 = λ o. IsTrue (bit chart.bits.now c j && is_within counted o) ↔ link counted m x in
-          let P : Member → Type 0 = λ n. IsTrue (bit chart.bits.now c j && is_within counted issuer.path_len) ↔ link counted n x in
-          let Q : Certificate → Type 0 = λ y. IsTrue (bit chart.bits.now c j && is_within counted issuer.path_len) ↔ link counted (member_of row) y in
-          let R : IsTrue (bit chart.bits.now c j && is_within counted issuer.path_len) ↔ link counted (member_of row) (issuer_of issuer) = (λ h. holds.0 (bits.0 (both.0 h).0, (both.0 h).1), λ h. both.1 (bits.1 (holds.1 h).0, (holds.1 h).1)) in
+          let G : Option ℕ → Type 0 = λ o. IsTrue (bit chart.bits.now c j && is_within counted o) ↔ (Reached j × link counted m x) in
+          let P : Member → Type 0 = λ n. IsTrue (bit chart.bits.now c j && is_within counted issuer.path_len) ↔ (Reached j × link counted n x) in
+          let Q : Certificate → Type 0 = λ y. IsTrue (bit chart.bits.now c j && is_within counted issuer.path_len) ↔ (Reached j × link counted (member_of row) y) in
+          let R : IsTrue (bit chart.bits.now c j && is_within counted issuer.path_len) ↔ (Reached j × link counted (member_of row) (issuer_of issuer)) = (λ h. holds.0 (bits.0 (both.0 h).0, (both.0 h).1), λ h. both.1 (bits.1 (holds.1 h).0, (holds.1 h).1)) in
           subst G (sym limit) (subst P m_is (subst Q x_is R));
       counts = λ c m at.
           let (row, at_c, m_is) = member_row c m at in
@@ -268,6 +306,15 @@ module _ (t : Tables) (tied : AreTied t) where
           let Q : Member → Type 0 = λ n. IsFalse (not row.self_issued) ↔ IsSelfIssued n.certificate in
           let R : IsFalse (not row.self_issued) ↔ IsSelfIssued (member_of row).certificate = (λ h. row.self_is.0 (self.0 h), λ h. self.1 (row.self_is.1 h)) in
           subst P (sym is) (subst Q m_is R);
+      anchored = λ i from below. let n = size_is in let m = columns_are in tied.closed.anchors i (omega arith) (omega arith);
+      above = λ counted c i lt below linked.
+          let n = size_is in
+          let m = columns_are in
+          let c_in : c < length t.certs.items = omega arith in
+          let i_in : i < length t.issuers.items = omega arith in
+          let limit = limit_in (slice_get chart.issuers.now i) in
+          let bits = (both_true (bit chart.bits.now c i) (is_within counted limit)).0 linked in
+          tied.closed.signed c (let few = few_here in omega arith) (i, i_in, signed c i ((table.right c i c_in i_in).0 bits.0));
     }
 
     pub numbered : (k : ℕ) (row : CertRow) (m : Member) → slice_get t.certs.items k ≡ Some row → certificate_bytes row.certificate ≡ m.certificate.whole → HasCertificate t.pool.now m →
@@ -275,14 +322,14 @@ module _ (t : Tables) (tied : AreTied t) where
     numbered k row m at same has =
         let at_m = get_map member_of t.certs.items k row at in
         let is : member_of row ≡ m = tied.distinct (member_of row) m (tied.certs.there k row at) has (whole_is row ∙ same) in
-        numbered_walks (issuing_of chart) link t.pool.now members (anchors_of (rules t.policy.now)) are_members speaks_of k m (at_m ∙ ap Some is)
+        numbered_walks (issuing_of chart) link Reached t.pool.now members (anchors_of (rules t.policy.now)) are_members speaks_of k m (at_m ∙ ap Some is)
 
   pub accepted_here : (times : List ℤ) (low at : ℤ) (i j counted : ℕ) (row : CertRow) (issuer : IssuerRow) → slice_get t.certs.items i ≡ Some row → slice_get t.issuers.items j ≡ Some issuer →
-      ((IsLinkedBy t times low at i j × IsTrue (is_within counted issuer.path_len)) ↔ IsIssued t.pool.now (rules t.policy.now) times low at counted (member_of row) (issuer_of issuer))
+      ((IsLinkedBy t times low at i j × IsTrue (is_within counted issuer.path_len)) ↔ (IsTrue (flag t.reached.items j) × IsIssued t.pool.now (rules t.policy.now) times low at counted (member_of row) (issuer_of issuer)))
   accepted_here times low at i j counted row issuer at_i at_j = linked_here i j row issuer at_i at_j times low at counted (length_here issuer counted)
 
   pub completed_here : (i j counted : ℕ) (row : CertRow) (issuer : IssuerRow) → slice_get t.certs.items i ≡ Some row → slice_get t.issuers.items j ≡ Some issuer →
-      ((IsCompleteBy t i j × IsTrue (is_within counted issuer.path_len)) ↔ IsComplete t.pool.now counted (member_of row) (issuer_of issuer))
+      ((IsCompleteBy t i j × IsTrue (is_within counted issuer.path_len)) ↔ (IsTrue (flag t.reached.items j) × IsComplete t.pool.now counted (member_of row) (issuer_of issuer)))
   completed_here i j counted row issuer at_i at_j = complete_here i j row issuer at_i at_j counted (length_here issuer counted)
 
   -- a certificate of the pool has a row
@@ -302,15 +349,6 @@ module _ (t : Tables) (tied : AreTied t) where
   lists_timed times le k row at =
       let lt = slice_get_within t.pool.now row.object.number _ (tied.lists.there k row at) in omega arith
 
-  pub few_here : (length t.certs.items < 2 ^ 32) × (length t.certs.items ≤ length t.issuers.items)
-  few_here =
-      let few = tied.few in
-      let reach = reach_is in
-      let l = length-append (map (λ (m : Member). m.certificate) members) (anchors_of (rules t.policy.now)) in
-      let c = length-map members (λ (m : Member). m.certificate) in
-      let r = length-map t.certs.items member_of in
-      (few, omega arith)
-
   module _ (chart : Chart) (certs_is : chart.certs.now ≡ t.certs.items) (issuers_is : chart.issuers.now ≡ t.issuers.items) (k : ℕ) (leaf : List ℕ)
       (found : (k < length t.certs.items) × HasBytes leaf (slice_get t.certs.items k)) (answer : Bool) (walks : IsTrue answer ↔ HasNumberedWalk (issuing_of chart) k) where
     found_row : (row : CertRow) × (slice_get t.certs.items k ≡ Some row) × (certificate_bytes row.certificate ≡ leaf)
@@ -320,7 +358,7 @@ module _ (t : Tables) (tied : AreTied t) where
         (m : Member) → HasCertificate t.pool.now m → m.certificate.whole ≡ leaf → (IsTrue answer ↔ IsAccepted t.pool.now (rules t.policy.now) times m low at)
     accepted_is times low at table m has whole =
         let (row, at_k, bytes) = found_row in
-        let both = numbered chart certs_is issuers_is (IsLinkedBy t times low at) (IsIssued t.pool.now (rules t.policy.now) times low at) table (accepted_here times low at)
+        let both = numbered chart certs_is issuers_is (IsLinkedBy t times low at) (IsIssued t.pool.now (rules t.policy.now) times low at) table (accepted_here times low at) (λ i j linked. linked.signed)
         k row m at_k (bytes ∙ sym whole) has in
         (λ h. both.0 (walks.0 h), λ h. walks.1 (both.1 h))
 
@@ -328,5 +366,5 @@ module _ (t : Tables) (tied : AreTied t) where
         (m : Member) → HasCertificate t.pool.now m → m.certificate.whole ≡ leaf → (IsTrue answer ↔ IsWalkComplete t.pool.now (rules t.policy.now) m)
     complete_is table m has whole =
         let (row, at_k, bytes) = found_row in
-        let both = numbered chart certs_is issuers_is (IsCompleteBy t) (IsComplete t.pool.now) table completed_here k row m at_k (bytes ∙ sym whole) has in
+        let both = numbered chart certs_is issuers_is (IsCompleteBy t) (IsComplete t.pool.now) table completed_here (λ i j linked. linked.signed) k row m at_k (bytes ∙ sym whole) has in
         (λ h. both.0 (walks.0 h), λ h. walks.1 (both.1 h))

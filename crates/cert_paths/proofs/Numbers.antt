@@ -44,8 +44,8 @@ at_some (x ∷ xs) (suc i) lt = at_some xs i (omega arith)
 pub contained_at : {A : Type 0} (xs : List A) (x : A) → Contains xs x → (i : ℕ) × (slice_get xs i ≡ Some x)
 contained_at xs x (i, lt, is) = (i, slice_get-get_or xs i x lt ∙ ap Some is)
 
-module _ (issuing : Issuing) (link : ℕ → Member → Certificate → Type 0) (pool : List Part) (members : List Member) (anchors : List Certificate)
-    (are : AreMembers pool members) (speaks : SpeaksOf issuing link members anchors) where
+module _ (issuing : Issuing) (link : ℕ → Member → Certificate → Type 0) (Reached : ℕ → Type 0) (pool : List Part) (members : List Member) (anchors : List Certificate)
+    (are : AreMembers pool members) (speaks : SpeaksOf issuing link Reached members anchors) where
   counted_next : (counted k : ℕ) (c : Member) (next : ℕ) → slice_get members k ≡ Some c → Counts counted c.certificate next → next ≡ next_count issuing counted k
   counted_next counted k c next at counts =
       ⊎_elim
@@ -88,11 +88,13 @@ module _ (issuing : Issuing) (link : ℕ → Member → Certificate → Type 0) 
       let size = speaks.size in
       let reach = speaks.reach in
       let l = length-append (map (λ (n : Member). n.certificate) members) anchors in
-      let m = length-map members (λ (n : Member). n.certificate) in (
+      let m = length-map members (λ (n : Member). n.certificate) in
+      let inside : length members + j < issuing.reach = omega arith in (
         length members + j,
         omega arith,
-        omega arith,
-        (speaks.linked counted k (length members + j) c anchor at (issuer_behind j (length members + j) anchor refl at_j)).1 holds,
+        inside,
+        (speaks.linked counted k (length members + j) c anchor at (issuer_behind j (length members + j) anchor refl at_j)).1
+            (speaks.anchored (length members + j) (omega arith) inside, holds),
       )
 
   rooted_from : (counted k : ℕ) (c : Member) → slice_get members k ≡ Some c → IsRooted issuing counted k → (anchor : Certificate) × Contains anchors anchor × link counted c anchor
@@ -106,8 +108,18 @@ module _ (issuing : Issuing) (link : ℕ → Member → Certificate → Type 0) 
       let (anchor, at_j) = at_some anchors j lt in (
         anchor,
         contains_at anchors j anchor at_j,
-        (speaks.linked counted k i c anchor at (issuer_behind j i anchor (omega arith) at_j)).0 holds,
+        ((speaks.linked counted k i c anchor at (issuer_behind j i anchor (omega arith) at_j)).0 holds).1,
       )
+
+  -- what leads on is reached
+  leads_reached : (counted k : ℕ) (numbers : List ℕ) → k < issuing.size → LeadsOn issuing counted k numbers → Reached k
+  leads_reached counted k [] lt (i, from, below, holds) = speaks.above counted k i lt below holds
+  leads_reached counted k (i ∷ numbers) lt (below, holds, on) =
+      let size = speaks.size in
+      let reach = speaks.reach in
+      let l = length-append (map (λ (n : Member). n.certificate) members) anchors in
+      let m = length-map members (λ (n : Member). n.certificate) in
+      speaks.above counted k i lt (omega arith) holds
 
   to_numbers : (counted k : ℕ) (c : Member) (above : List Member) → slice_get members k ≡ Some c → LeadsUp link pool anchors counted c above →
       (numbers : List ℕ) × (length numbers ≡ length above) × LeadsOn issuing counted k numbers
@@ -117,10 +129,12 @@ module _ (issuing : Issuing) (link : ℕ → Member → Certificate → Type 0) 
       let size = speaks.size in
       let within = slice_get_within members i issuer at_i in
       let (numbers, long, on) = to_numbers next i issuer above at_i up in
-      let P : ℕ → Type 0 = λ n. LeadsOn issuing n i numbers in (
+      let P : ℕ → Type 0 = λ n. LeadsOn issuing n i numbers in
+      let below : i < issuing.size = omega arith in
+      let reached = leads_reached next i numbers below on in (
         i ∷ numbers,
         omega arith,
-        (omega arith, (speaks.linked counted k i c issuer.certificate at (issuer_in_front i issuer at_i)).1 holds, subst P (counted_next counted i issuer next at_i counts) on),
+        (below, (speaks.linked counted k i c issuer.certificate at (issuer_in_front i issuer at_i)).1 (reached, holds), subst P (counted_next counted i issuer next at_i counts) on),
       )
 
   to_members : (counted k : ℕ) (c : Member) (numbers : List ℕ) → slice_get members k ≡ Some c → LeadsOn issuing counted k numbers →
@@ -135,7 +149,7 @@ module _ (issuing : Issuing) (link : ℕ → Member → Certificate → Type 0) 
         omega arith,
         (
           are.there i issuer at_i,
-          (speaks.linked counted k i c issuer.certificate at (issuer_in_front i issuer at_i)).0 holds,
+          ((speaks.linked counted k i c issuer.certificate at (issuer_in_front i issuer at_i)).0 holds).1,
           (next_count issuing counted i, next_counted counted i issuer at_i, up),
         ),
       )

@@ -15,7 +15,7 @@ use Rattle.cert_paths.specs.declared.place.Place.{Place}
 use Rattle.cert_paths.specs.Pool.{Keeps, numbers_from, part_numbers, AreDistinct, is_crl, is_list_at}
 use Rattle.cert_paths.specs.Held.{Entry, part_of, held_part, parts_below, layout_of, IsHeld, IsFresh, IsPlaceOf, IsLonger}
 use Rattle.cert_paths.proofs.HeldLaws.{get_before, is_held, stands_there, added, IsHeld-added, length-parts_below}
-use Rattle.cert_paths.proofs.NotBoth.{not_both}
+use Rattle.x509_certs.proofs.NotBoth.{not_both}
 
 -- the bytes of a part
 abbrev whole_of : Part → List ℕ

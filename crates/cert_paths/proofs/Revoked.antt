@@ -1,14 +1,16 @@
 -- A serial is revoked up to a moment where some entry lists it with a date up to then.
-use Rattle.std.proofs.Common.{◌≡◌, ℕ, zero, suc, true, false, ◌⊎◌, List, [], ◌∷◌, ◌++◌, slice_get, map, Option, Some, None, ℤ, ◌≤ℤ◌, arith, refl, sym, ap, subst, ◌∙◌, inl, inr, ⊎_elim, true≢false, Contains, if◌then◌else◌, ◌↔◌, int_lt}
+use Rattle.std.proofs.Common.{◌≡◌, ℕ, zero, suc, Bool, true, false, ◌⊎◌, List, [], ◌∷◌, ◌++◌, slice_get, map, Option, Some, None, ℤ, ◌≤ℤ◌, arith, refl, sym, ap, subst, ◌∙◌, inl, inr, ⊎_elim, true≢false, Contains, if◌then◌else◌, ◌↔◌, int_lt}
 use Rattle.std.specs.Str.{bytes_eq}
 use Rattle.std.proofs.lemmas.Int.{ints}
 use Rattle.std.proofs.lemmas.Slice.Eq.{bytes_eq-Decides}
 use Rattle.der_values.specs.Element.{Element}
 use Rattle.der_values.specs.Elements.{elements}
+use Rattle.x509_certs.specs.Certificates as certificates
 use Rattle.x509_certs.specs.Lists as lists
 use Rattle.x509_certs.specs.Signed as signed
 use Rattle.acceptance.specs.Certificates.{Revoked}
 use Rattle.acceptance.specs.Objects.{crl_of, revoked_of}
+use Rattle.cert_paths.specs.Rows.{date_of}
 use Rattle.cert_paths.specs.Status.{IsBy}
 use Rattle.cert_paths.proofs.Numbers.{contains_at, contained_at, get_map, got_map}
 
@@ -77,3 +79,18 @@ by_revoked serial at whole =
         let (k, is) = contained_at (map revoked_of (elements (lists.entries whole))) entry has in
         let (e, at_e, same) = got_map revoked_of (elements (lists.entries whole)) k entry is in
         by (k, e, at_e, (ap (λ (r : Revoked). r.serial) same ∙ named, subst (λ (r : Revoked). r.date ≤ℤ at) (sym same) early))
+
+-- a date is asked of a CRL of that name alone
+date_if : (b : Bool) (at : ℤ) (date : Option ℤ) → IsBy at (if b then date else None) → IsBy at date
+date_if true at date by = by
+date_if false at date by = absurd by
+
+pub by_date : (certificate list : List ℕ) (at : ℤ) → IsBy at (date_of certificate list) → IsBy at (lists.revoked (certificates.serial certificate) list)
+by_date certificate list at by =
+    date_if (bytes_eq (lists.list_issuer list) (certificates.issuer certificate)) at (lists.revoked (certificates.serial certificate) list) by
+
+pub dated_by : (certificate list : List ℕ) (at : ℤ) → lists.list_issuer list ≡ certificates.issuer certificate → IsBy at (lists.revoked (certificates.serial certificate) list) →
+    IsBy at (date_of certificate list)
+dated_by certificate list at named by =
+    let same : bytes_eq (lists.list_issuer list) (certificates.issuer certificate) ≡ true = (bytes_eq-Decides (lists.list_issuer list) (certificates.issuer certificate)).1 named in
+    rw same by

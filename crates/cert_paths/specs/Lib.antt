@@ -2,6 +2,7 @@ pub mod Pool
 pub mod Held
 pub mod Numbered
 pub mod Tables
+pub mod Reached
 pub mod Rows
 pub mod Chart
 pub mod Speaks

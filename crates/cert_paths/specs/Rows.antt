@@ -1,5 +1,6 @@
 -- What the rows of the code stand for, and which certificates may be linked.
-use Rattle.std.specs.Prelude.{◌≡◌, ℕ, List, [], map, slice_get, Option, Some, None, ℤ, ◌≤ℤ◌, ◌<◌, ◌≤◌, length}
+use Rattle.std.specs.Prelude.{◌≡◌, ℕ, List, [], map, slice_get, Option, Some, None, ℤ, ◌≤ℤ◌, ◌<◌, ◌≤◌, length, if◌then◌else◌}
+use Rattle.std.specs.Str.{bytes_eq}
 use Rattle.policy_rules.specs.Rules.{Rules}
 use Rattle.x509_certs.specs.Certificates as certificates
 use Rattle.x509_certs.specs.Lists as lists
@@ -60,9 +61,14 @@ pub record IsInTime (policy : Rules) (times : List ℤ) (low at : ℤ) (c : Memb
   pub begun : c.certificate.not_before ≤ℤ low
   pub lasts : at ≤ℤ c.certificate.not_after
 
--- the earliest date at which each CRL lists each certificate
+-- The earliest date at which a CRL of the issuer that the certificate names lists it. Of a CRL with another name none is asked.
+abbrev pub date_of : (listed list : List ℕ) → Option ℤ
+date_of listed list =
+    if bytes_eq (lists.list_issuer list) (certificates.issuer listed) then lists.revoked (certificates.serial listed) list else None
+
+-- these dates, for each CRL
 abbrev pub dates_of : CertRow → List ListRow → List (Option ℤ)
-dates_of c rows = map (λ (l : ListRow). lists.revoked (certificates.serial (certificate_bytes c.certificate)) (list_bytes l.list)) rows
+dates_of c rows = map (λ (l : ListRow). date_of (certificate_bytes c.certificate) (list_bytes l.list)) rows
 
 -- the certificate of a row has these bytes; none has that isn't there
 abbrev pub HasBytes : List ℕ → Option CertRow → Type 0

@@ -2,6 +2,10 @@
 use Rattle.std.specs.Prelude.{◌≡◌, ℕ, ◌<◌, Bool, false, List, [], length, slice_get, slice_index_or, Option, Some, None, IsTrue, ◌↔◌, Vec}
 use Rattle.std.specs.declared.alloc.Global.{Global}
 
+-- the flag of a number; there is none outside
+abbrev pub flag : List Bool → ℕ → Bool
+flag flags number = slice_index_or flags number false
+
 -- the tests of a row; those of a row that isn't there are none
 abbrev pub bits_in : Option (Vec Bool Global) → List Bool
 bits_in None = []

@@ -2,10 +2,10 @@
 use Rattle.std.specs.Prelude.{◌≡◌, ℕ, ◌<◌, ◌^◌, List, ◌++◌, length, map, slice_get, ℤ, IsTrue}
 use Rattle.policy_rules.specs.View.{rules}
 use Rattle.acceptance.specs.Policy.{anchors_of}
-use Rattle.acceptance.specs.Walks.{IsSigned, IsCrlOf}
 use Rattle.cert_paths.specs.declared.links.Tables.{Tables}
 use Rattle.cert_paths.specs.Pool.{AreDistinct}
-use Rattle.cert_paths.specs.Rows.{member_of, issuer_of, member_at, issuer_at, list_at, dates_of, AreCertificates, AreLists, IsInTime}
+use Rattle.cert_paths.specs.Reached.{IsClosed, IsSignedTable, IsSpoken}
+use Rattle.cert_paths.specs.Rows.{member_of, issuer_of, member_at, dates_of, AreCertificates, AreLists, IsInTime}
 use Rattle.cert_paths.specs.Status.{SomeCurrent, SomeRevoked, SomeSpeaks, dates_in}
 use Rattle.cert_paths.specs.Tables.{bit, IsTableOf}
 
@@ -15,8 +15,9 @@ pub record AreTied (t : Tables) : Type 0 where
   pub distinct : AreDistinct t.pool.now
   pub issuers : map issuer_of t.issuers.items ≡ map (λ r. (member_of r).certificate) t.certs.items ++ anchors_of (rules t.policy.now)
   pub lists : AreLists t.pool.now t.lists.items
-  pub signed : IsTableOf (λ i j. IsSigned (member_at t.certs.items i).certificate (issuer_at t.issuers.items j)) (length t.certs.items) (length t.issuers.items) t.signed.items
-  pub speaks : IsTableOf (λ i j. IsCrlOf (issuer_at t.issuers.items j) (list_at t.lists.items i)) (length t.lists.items) (length t.issuers.items) t.speaks.items
+  pub closed : IsClosed (length t.certs.items) (length t.issuers.items) t.reached.items t.signed.items
+  pub signed : IsSignedTable t.certs.items t.issuers.items t.reached.items t.signed.items
+  pub speaks : IsTableOf (IsSpoken t.lists.items t.issuers.items t.reached.items) (length t.lists.items) (length t.issuers.items) t.speaks.items
   pub dates : map (λ d. d.items) t.dates.items ≡ map (λ c. dates_of c t.lists.items) t.certs.items
 
 -- By the tables a certificate may be linked to an issuer, for a walk with `low` and `at`.

@@ -112,7 +112,7 @@ fn is_accepted(
 impl<'a> Links<'a> {
     /// The links of a pool and a policy.
     ///
-    /// Each signature of the pool is verified here, once for each issuer that it may have, and in no later call.
+    /// Signatures are verified here, each once for each issuer of its name that is an anchor or lies under one, and in no later call.
     pub fn new(alloc: Global, pool: &'a Pool, policy: &'a Policy) -> Result<Links<'a>, OutOfMemory>
         ensures { IfOk result (λ l. l ≡ record { pool = pool.now; policy = rules policy.now }) }
     {

@@ -8,7 +8,7 @@ ghost use Rattle.cert_paths.specs.Tied.{AreTied, IsCompleteBy};
 
 use crate::chart::Chart;
 use crate::find::row_of;
-use crate::links::{Tables, tables_of};
+use crate::links::{Links, Tables};
 use crate::pool::Pool;
 use crate::search::has_walk;
 use crate::status::has_list;
@@ -66,10 +66,24 @@ fn is_complete(alloc: Global, tables: &Tables<'_>, leaf: &[u8]) -> Result<bool, 
     Ok(answer)
 }
 
-/// Whether a certificate of the pool has all that a walk to an anchor wants, whatever the times: names, signatures, flags and path
-/// lengths, and a CRL of each issuer.
-///
-/// `leaf` is a certificate of the pool by its bytes.
+impl<'a> Links<'a> {
+    /// Whether a certificate of the pool has all that a walk to an anchor wants, whatever the times: names, signatures, flags and path
+    /// lengths, and a CRL of each issuer.
+    ///
+    /// `leaf` is a certificate of the pool by its bytes. No signature is verified here.
+    pub fn complete(&self, alloc: Global, leaf: &[u8]) -> Result<bool, OutOfMemory>
+        requires leaf { (m : Member) × HasCertificate self.now.pool m × (m.certificate.whole ≡ leaf.now) }
+        ensures { IfOk result (λ answer. (m : Member) → HasCertificate self.now.pool m → m.certificate.whole ≡ leaf.now →
+            (IsTrue answer ↔ IsWalkComplete self.now.pool self.now.policy m)) }
+    {
+        match is_complete(alloc, &self.tables, leaf) {
+            Ok(answer) => Ok(answer),
+            Err(_) => Err(OutOfMemory),
+        }
+    }
+}
+
+/// The same for one question alone; for more ask the `Links` of the pool and the policy, since each signature is verified here.
 pub fn complete(
     alloc: Global,
     pool: &Pool,
@@ -80,11 +94,6 @@ pub fn complete(
     ensures { IfOk result (λ answer. (m : Member) → HasCertificate pool.now m → m.certificate.whole ≡ leaf.now →
         (IsTrue answer ↔ IsWalkComplete pool.now (rules policy.now) m)) }
 {
-    let Ok(tables) = tables_of(alloc, pool, policy) else {
-        return Err(OutOfMemory);
-    };
-    match is_complete(alloc, &tables, leaf) {
-        Ok(answer) => Ok(answer),
-        Err(_) => Err(OutOfMemory),
-    }
+    let links = Links::new(alloc, pool, policy)?;
+    links.complete(alloc, leaf)
 }

@@ -98,9 +98,10 @@ pub(crate) fn is_signed(certificate: &Certificate<'_>, issuer: &Certificate<'_>)
     is_certificate_verified(certificate, issuer)
 }
 
-/// Whether a CRL speaks for an issuer. What is cheap is asked first.
+/// Whether a CRL speaks for an issuer, where it is known whether the CRL is usable. What is cheap is asked first.
 #[tactic(auto, unfolding(acceptance::specs::Objects::certificate_of, acceptance::specs::Objects::crl_of))]
-pub(crate) fn is_list_of(issuer: &Certificate<'_>, list: &Crl<'_>) -> bool
+pub(crate) fn is_list_of(issuer: &Certificate<'_>, list: &Crl<'_>, usable: bool) -> bool
+    requires { usable ≡ (says.crl_of (list_bytes list.now)).usable }
     ensures { IsTrue result ↔ IsCrlOf (says.certificate_of (certificate_bytes issuer.now)) (says.crl_of (list_bytes list.now)) }
 {
     if list.issuer() != issuer.subject() {
@@ -109,7 +110,7 @@ pub(crate) fn is_list_of(issuer: &Certificate<'_>, list: &Crl<'_>) -> bool
     if !issuer.signs_crls() {
         return false;
     }
-    if !list.usable() {
+    if !usable {
         return false;
     }
     is_list_verified(list, issuer)

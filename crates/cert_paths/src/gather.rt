@@ -3,19 +3,17 @@
 ghost use Rattle.std.specs.Prelude.{◌≡◌, ◌+◌, ◌++◌, ◌<◌, ◌^◌, ℕ, List, map, length, slice_get, Some, IfOk, OnOk};
 ghost use Rattle.acceptance.specs.Certificates as objects;
 ghost use Rattle.policy_rules.specs.View.{rules};
-ghost use Rattle.x509_certs.specs.Certificates as certificates;
-ghost use Rattle.x509_certs.specs.Lists as lists;
 ghost use Rattle.x509_certs.specs.View.{certificate_bytes, list_bytes};
 ghost use Rattle.acceptance.specs.Policy.{anchors_of};
 ghost use Rattle.cert_paths.specs.Pool.{seen, part_numbers, AreDistinct};
-ghost use Rattle.cert_paths.specs.Rows.{member_of, issuer_of, dates_of, AreCertificates, AreLists, AreCertificatesTo, AreListsTo};
+ghost use Rattle.cert_paths.specs.Rows.{member_of, issuer_of, date_of, dates_of, AreCertificates, AreLists, AreCertificatesTo, AreListsTo};
 
 use crate::object::ObjectId;
 use crate::pool::Pool;
 use crate::rows::{CertRow, IssuerRow, ListRow, cert_row, issuer_row, list_row};
 use policy_rules::Policy;
 use std::alloc::{AllocError, Global};
-use x509_certs::Part;
+use x509_certs::{Certificate, Crl, Part};
 
 // Puts a part of the pool to the certificates before it.
 fn put_cert<'a>(
@@ -111,19 +109,30 @@ pub(crate) fn issuer_rows<'a>(
     Ok(rows)
 }
 
+// The date at which a CRL lists a certificate that names its issuer.
+fn date_of(certificate: &Certificate<'_>, list: &Crl<'_>) -> Option<i64>
+    ensures { result ≡ date_of (certificate_bytes certificate.now) (list_bytes list.now) }
+{
+    if list.issuer() == certificate.issuer() {
+        list.revoked(certificate.serial())
+    } else {
+        None
+    }
+}
+
 fn date_row(
     alloc: Global,
-    serial: &[u8],
+    certificate: &Certificate<'_>,
     rows: &[ListRow<'_>],
 ) -> Result<Vec<Option<i64>>, AllocError>
-    ensures { IfOk result (λ v. v.items ≡ map (λ l. lists.revoked serial.now (list_bytes l.list)) rows.now) }
+    ensures { IfOk result (λ v. v.items ≡ map (λ l. date_of (certificate_bytes certificate.now) (list_bytes l.list)) rows.now) }
 {
     rows.iter()
-        .map(|row| row.list.revoked(serial))
+        .map(|row| date_of(certificate, &row.list))
         .collect(alloc)
 }
 
-/// The earliest date at which each CRL lists each certificate.
+/// The earliest date at which each CRL of the name of its issuer lists each certificate.
 pub(crate) fn dates(
     alloc: Global,
     certs: &[CertRow<'_>],
@@ -133,7 +142,7 @@ pub(crate) fn dates(
 {
     let mut all = Vec::new(alloc);
     for cert in certs {
-        let row = date_row(alloc, cert.certificate.serial(), rows)?;
+        let row = date_row(alloc, &cert.certificate, rows)?;
         all.push(row)?;
     }
     Ok(all)

@@ -11,6 +11,7 @@ mod links;
 mod object;
 mod place;
 mod pool;
+mod reaching;
 mod relations;
 mod rows;
 mod search;

@@ -11,7 +11,7 @@ use crate::place::Place;
 use indexmap::IndexMap;
 use std::alloc::Global;
 use std::marker::Model;
-use x509_certs::{Part, read_certificate, read_crl};
+use x509_certs::{Part, whole_certificate, whole_crl};
 use xa_io::OutOfMemory;
 
 /// Numbered objects, of which the certificates and CRLs are kept, distinct by their bytes.
@@ -34,21 +34,15 @@ impl Model for Pool {
     ghost invariant = { λ p. IsHeld p.objects p.held.entries };
 }
 
-// Bytes that are one whole certificate, or one whole CRL.
+// Bytes that are one whole certificate, or one whole CRL, which a pool keeps: they aren't judged again.
 fn read_whole<'a>(bytes: &'a [u8], is_list: bool) -> Part<'a>
     requires { IsObject (layout_of is_list) bytes.now }
     ensures { seen result ≡ part_of is_list bytes.now }
 {
     if is_list {
-        match read_crl(bytes) {
-            Ok(list) => Part::List(list),
-            Err(_) => unreachable!(),
-        }
+        Part::List(whole_crl(bytes))
     } else {
-        match read_certificate(bytes) {
-            Ok(certificate) => Part::Cert(certificate),
-            Err(_) => unreachable!(),
-        }
+        Part::Cert(whole_certificate(bytes))
     }
 }
 

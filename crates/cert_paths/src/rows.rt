@@ -41,9 +41,11 @@ pub(crate) struct ListRow<'a> {
     pub(crate) kind: Option<SignatureKind>,
     pub(crate) this_update: i64,
     pub(crate) next_update: Option<i64>,
+    pub(crate) usable: bool,
     ghost kind_is: { kind ≡ (crl_of (list_bytes list)).signature.kind },
     ghost this_is: { this_update ≡ (crl_of (list_bytes list)).this_update },
     ghost next_is: { next_update ≡ (crl_of (list_bytes list)).next_update },
+    ghost usable_is: { usable ≡ (crl_of (list_bytes list)).usable },
 }
 
 #[tactic(auto, unfolding(acceptance::specs::Objects::certificate_of))]
@@ -82,5 +84,6 @@ pub(crate) fn list_row<'a>(object: ObjectId, list: Crl<'a>) -> ListRow<'a>
         kind: kind_named(list.sign_oid()),
         this_update: list.this_update(),
         next_update: list.next_update(),
+        usable: list.usable(),
     }
 }

@@ -1,7 +1,7 @@
 //! Tables of tests.
 
 ghost use Rattle.std.specs.Prelude.{◌≡◌, ◌<◌, ◌≤◌, ◌↔◌, ℕ, length, IsTrue, IfOk, slice_index_or, false};
-ghost use Rattle.cert_paths.specs.Tables.{bit, IsTableOf, IsRowOf};
+ghost use Rattle.cert_paths.specs.Tables.{bit, flag, IsTableOf, IsRowOf};
 
 use std::alloc::{AllocError, Global};
 
@@ -56,6 +56,16 @@ pub(crate) fn look(table: &[Vec<bool>], row: usize, column: usize) -> bool
     };
     match bits.get(column) {
         Some(bit) => *bit,
+        None => false,
+    }
+}
+
+/// What flags say of a number; false outside.
+pub(crate) fn is_set(flags: &[bool], number: usize) -> bool
+    ensures { result ≡ flag flags.now number }
+{
+    match flags.get(number) {
+        Some(flag) => *flag,
         None => false,
     }
 }

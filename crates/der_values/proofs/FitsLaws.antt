@@ -41,6 +41,23 @@ okay x = Ok x
 same_ok : {A : Type 0} (x y : A) → okay x ≡ okay y → x ≡ y
 same_ok x y is = cc
 
+-- What an element's layout reads is the element there.
+pub read_one : (tag : ℕ) (rule : Rule) (inner : Layout) (c : Content) (at end : ℕ) → read (element tag rule inner) c at ≡ okay end →
+    (e : Element) × (element_at (drop at c.bytes) ≡ Some e) × (end ≡ at + length e.whole)
+unfolding read take_one next
+read_one tag rule inner c at end is =
+    let one = came (take_one tag rule c at) _ end is in
+    let inside = came (read inner (held one.first c at) 0) _ end one.then_is in
+    let all = came (all_of (held one.first c at) inside.first) _ end inside.then_is in
+    let k = came (next c at) _ one.first one.first_is in
+    let t = ok_if (k.first.tag == tag) _ (c.begin + at) one.first k.then_is in
+    let a = ok_if (allows rule (take at c.bytes) k.first) (okay k.first) (c.begin + at) one.first t.1 in
+    let some = ok_or_some (element_at (drop at c.bytes)) (c.begin + at) k.first (ok_if (nat_lt at (length c.bytes)) _ c.holder k.first k.first_is).1 in (
+      k.first,
+      some,
+      sym (same_ok (at + length one.first.whole) end all.then_is) ∙ ap (λ (e : Element). at + length e.whole) (sym (same_ok k.first one.first a.1)),
+    )
+
 -- a place in the midst of a content: the bytes before it, and those from it on
 record Place (c : Content) (offset : ℕ) (before rest : List ℕ) : Type 0 where
   bytes : c.bytes ≡ before ++ rest

@@ -6,3 +6,5 @@ pub mod ElementLaws
 pub mod FitsLaws
 pub mod Stands
 pub mod Shift
+pub mod DistinctLaws
+pub mod NotTwice

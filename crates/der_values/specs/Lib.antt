@@ -7,3 +7,4 @@ pub mod Fits
 pub mod Elements
 pub mod View
 pub mod Meaning
+pub mod Distinct

@@ -1,8 +1,8 @@
 -- What an element has to be beyond its tag, and what tells one of two layouts.
 use Rattle.std.specs.Prelude.{ℕ, zero, suc, Bool, true, false, not, List, [], ◌∷◌, length, drop, Option, Some, None, option_and_then, is_some, ◌==◌, if◌then◌else◌}
-use Rattle.std.specs.Option.{option_map_or}
+use Rattle.std.specs.List.{list_any}
 use Rattle.std.specs.Str.{bytes_eq}
-use Rattle.der_values.specs.Element.{Element, element_at}
+use Rattle.der_values.specs.Element.{Element, element_at, elements}
 use Rattle.der_values.specs.Kinds.{is_integer, is_oid, is_boolean, bits, has_unused_bits, is_count, is_thousandth}
 use Rattle.der_values.specs.Times.{seconds_of, plain_seconds_of}
 use Rattle.der_values.specs.declared.oids.KnownOid.{KnownOid}
@@ -25,10 +25,20 @@ abbrev pub whole_of : Option Element → List ℕ
 whole_of None = []
 whole_of (Some e) = e.whole
 
--- An element of the content whose first inner element holds these bytes; looked for no more often than the content has bytes.
-unfoldable pub has_first : ℕ → List ℕ → List ℕ → Bool
-has_first zero name bytes = false
-has_first (suc n) name bytes = option_map_or (λ e. if bytes_eq (content_of (nth 0 e.content)) name then true else has_first n name (drop (length e.whole) bytes)) (element_at bytes) false
+-- What the first element in an element holds, and all its bytes.
+abbrev pub name_in : Element → List ℕ
+name_in e = content_of (nth 0 e.content)
+
+abbrev pub first_in : Element → List ℕ
+first_in e = whole_of (nth 0 e.content)
+
+-- Some element of the content begins with an element that holds these bytes.
+abbrev pub has_named : List ℕ → List ℕ → Bool
+has_named name content = list_any (λ e. bytes_eq (name_in e) name) (elements content)
+
+-- Some element of the content begins with the same element as this one.
+abbrev pub stands_in : Element → List ℕ → Bool
+stands_in e content = list_any (λ x. bytes_eq (first_in x) (first_in e)) (elements content)
 
 abbrev pub tag_of : List ℕ → Option ℕ
 tag_of [] = None
@@ -60,10 +70,6 @@ is_required name =
     else if bytes_eq name (bytes_of oids.MessageDigest) then true
     else bytes_eq name (bytes_of oids.SigningCertificate)
 
--- What the first element in an element holds.
-abbrev pub name_in : Element → List ℕ
-name_in e = content_of (nth 0 e.content)
-
 unfoldable pub allows : Rule → List ℕ → Element → Bool
 allows rules.Any before e = true
 allows rules.Integer before e = is_integer e.content
@@ -80,8 +86,8 @@ allows rules.Thousandth before e = is_thousandth e.content
 allows (rules.Named name) before e = bytes_eq e.content (bytes_of name)
 allows rules.Digest before e = is_digest e.content
 allows (rules.SameAs place) before e = bytes_eq e.whole (whole_of (nth place (content_of (nth 0 before))))
-allows rules.NotTwice before e = not (has_first (length before) (name_in e) before)
-allows rules.RequiredOnce before e = if is_required (name_in e) then not (has_first (length before) (name_in e) before) else true
+allows rules.NotTwice before e = not (stands_in e before)
+allows rules.RequiredOnce before e = if is_required (name_in e) then not (stands_in e before) else true
 
 unfoldable pub decides : Test → List ℕ → Option ℕ → Bool
 decides (tests.Tag t) before None = false
@@ -89,4 +95,4 @@ decides (tests.Tag t) before (Some tag) = tag == t
 decides tests.Comes before None = false
 decides tests.Comes before (Some tag) = true
 decides (tests.FirstIs name) before tag = bytes_eq (content_of (nth 0 before)) (bytes_of name)
-decides (tests.Has name) before tag = has_first (length before) (bytes_of name) before
+decides (tests.Has name) before tag = has_named (bytes_of name) before

@@ -1,8 +1,8 @@
 -- UTCTime and GeneralizedTime in DER: X.690, 11.7 and 11.8; RFC 5280, 4.1.2.5; RFC 3161, 2.4.2.
 -- Dates are those of the Gregorian calendar, also before it was in use. Seconds are counted without leap seconds.
-use Rattle.std.specs.Prelude.{ℕ, ℤ, pos, ◌+ℤ◌, ◌*ℤ◌, int_le, ◌+◌, ◌-◌, ◌*◌, Bool, true, false, ◌&&◌, List, [], ◌∷◌, length, take, drop, Option, Some, None, option_and_then, nat_lt, nat_le, ◌==◌, if◌then◌else◌}
+use Rattle.std.specs.Prelude.{ℕ, ℤ, pos, neg_ℤ, ◌+ℤ◌, ◌*ℤ◌, int_le, ◌+◌, ◌-◌, ◌*◌, Bool, true, false, ◌&&◌, List, [], ◌∷◌, length, take, drop, Option, Some, None, option_and_then, nat_lt, nat_le, ◌==◌, if◌then◌else◌}
 use Rattle.std.specs.List.{list_all, list_any}
-use Rattle.jiff_core.specs.Calendar.{days_in_month, days_from_civil}
+use Rattle.jiff_core.specs.Calendar.{days_in_month, days_from_civil, IsBetween}
 use Rattle.der_values.specs.Element.{Element}
 
 -- The number that ASCII digits spell behind n; None where a byte is no digit.
@@ -88,9 +88,16 @@ unfoldable pub rounding : List ℕ → Option ℤ
 rounding [] = None
 rounding (b ∷ bs) = if b == 46 then fraction (take (length bs - 1) bs) (drop (length bs - 1) bs) else if is_z (b ∷ bs) then Some (pos 0) else None
 
--- The last second of the year 9999.
+-- The first second of the year 0000, and the last one of the year 9999.
+abbrev pub first_second : ℤ
+first_second = neg_ℤ (pos 62_167_219_200)
+
 abbrev pub last_second : ℤ
 last_second = pos 253_402_300_799
+
+-- A time of the years 0000 to 9999, so one that has a text.
+abbrev pub IsInYears : ℤ → Type 0
+IsInYears = IsBetween first_second last_second
 
 unfoldable pub generalized_parts : List ℕ → Option ℤ
 generalized_parts text = do

@@ -7,8 +7,9 @@ ghost use Rattle.std.specs.Str.{bytes_eq};
 ghost use Rattle.std.specs.Iterator.{YieldsFirstBy, item_count};
 ghost use Rattle.der_values.specs.View.{view, elements_left};
 ghost use Rattle.der_values.specs.Elements.{elements, tagged, first_named};
+ghost use Rattle.der_values.specs.Rules.{has_named, stands_in};
 
-use crate::rules::part;
+use crate::rules::{part, piece};
 use crate::tlv::{Tlv, read_tlv};
 
 /// The elements that are left of a content.
@@ -22,6 +23,15 @@ pub fn elements_of<'a>(content: &'a [u8]) -> Elements<'a>
     ensures { elements_left result ≡ elements content.now }
 {
     Elements { rest: content }
+}
+
+impl<'a> Elements<'a> {
+    /// The same elements once more.
+    pub(crate) fn again(&self) -> Elements<'a>
+        ensures { elements_left result ≡ elements_left self.now }
+    {
+        Elements { rest: self.rest }
+    }
 }
 
 impl<'a> Iterator for Elements<'a> {
@@ -65,4 +75,19 @@ pub fn has_octets(octets: &[u8], content: &[u8]) -> bool
     ensures { result ≡ list_any (λ e. bytes_eq e.content octets.now) (elements content.now) }
 {
     elements_of(content).any(|e| e.content == octets)
+}
+
+/// Whether an element begins with an element of this content.
+pub(crate) fn has_named(name: &[u8], content: &[u8]) -> bool
+    ensures { result ≡ has_named name.now content.now }
+{
+    elements_of(content).any(|e| part(0, e.content) == name)
+}
+
+/// Whether an element begins with the same element as this one.
+pub(crate) fn stands_in(tlv: &Tlv<'_>, content: &[u8]) -> bool
+    ensures { result ≡ stands_in (view tlv.now) content.now }
+{
+    let first = piece(0, tlv.content);
+    elements_of(content).any(|e| piece(0, e.content) == first)
 }

@@ -2,6 +2,7 @@
 #![tactic(auto)]
 
 mod content;
+mod distinct;
 mod elements;
 mod kinds;
 mod layout;
@@ -18,6 +19,3 @@ pub use oids::KnownOid;
 pub use rules::{Rule, Test, element, part, piece};
 pub use times::{plain_seconds, seconds};
 pub use tlv::{DerFault, Tlv, read_tlv};
-
-#[cfg(test)]
-mod tests;

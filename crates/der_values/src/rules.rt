@@ -4,9 +4,10 @@ ghost use Rattle.std.specs.Prelude.{◌≡◌, ◌≤◌, length};
 ghost use Rattle.std.specs.Str.{bytes_eq};
 ghost use Rattle.std.specs.Option.{option_map};
 ghost use Rattle.der_values.specs.Rules as def;
-ghost use Rattle.der_values.specs.Rules.{nth, content_of, whole_of, has_first, tag_of, bytes_of, is_digest, is_required, name_in};
+ghost use Rattle.der_values.specs.Rules.{nth, content_of, whole_of, tag_of, bytes_of, is_digest, is_required};
 ghost use Rattle.der_values.specs.View.{view};
 
+use crate::elements::{has_named, stands_in};
 use crate::kinds::{
     has_whole_bytes, is_minimal, is_object_identifier, is_part_of_thousand, is_small, is_truth,
     may_have_unused_bits,
@@ -48,7 +49,7 @@ pub enum Rule {
     Digest,
     /// The same bytes as the element of this number in the first element of the content.
     SameAs(usize),
-    /// No element before holds the same bytes in its first element.
+    /// No element before begins with the same element.
     NotTwice,
     /// The same for the signed attributes that have to stand.
     RequiredOnce,
@@ -105,23 +106,6 @@ pub fn piece<'a>(number: usize, bytes: &'a [u8]) -> &'a [u8]
     }
 }
 
-#[tactic(auto, using(crate::proofs::Walks::listed_step, crate::proofs::Walks::listed_here, crate::proofs::Walks::listed_none, crate::proofs::Walks::listed_end))]
-fn is_listed(name: &[u8], bytes: &[u8]) -> bool
-    ensures { result ≡ has_first (length bytes.now) name.now bytes.now }
-{
-    let mut at = 0;
-    for _ in 0..bytes.len() {
-        let Ok(tlv) = read_tlv(bytes, at) else {
-            return false;
-        };
-        if part(0, tlv.content) == name {
-            return true;
-        }
-        at += tlv.whole.len();
-    }
-    false
-}
-
 fn is_known_digest(name: &[u8]) -> bool
     ensures { result ≡ is_digest name.now }
 {
@@ -136,12 +120,6 @@ fn has_to_stand(name: &[u8]) -> bool
     name == KnownOid::ContentType.content()
         || name == KnownOid::MessageDigest.content()
         || name == KnownOid::SigningCertificate.content()
-}
-
-fn stands_again(tlv: &Tlv<'_>, before: &[u8]) -> bool
-    ensures { result ≡ has_first (length before.now) (name_in (view tlv.now)) before.now }
-{
-    is_listed(part(0, tlv.content), before)
 }
 
 fn is_same_as(number: usize, before: &[u8], tlv: &Tlv<'_>) -> bool
@@ -171,8 +149,8 @@ pub(crate) fn allows(rule: Rule, before: &[u8], tlv: &Tlv<'_>) -> bool
         Rule::Named(name) => tlv.content == name.content(),
         Rule::Digest => is_known_digest(tlv.content),
         Rule::SameAs(number) => is_same_as(number, before, tlv),
-        Rule::NotTwice => !stands_again(tlv, before),
-        Rule::RequiredOnce => !has_to_stand(part(0, tlv.content)) || !stands_again(tlv, before),
+        Rule::NotTwice => !stands_in(tlv, before),
+        Rule::RequiredOnce => !has_to_stand(part(0, tlv.content)) || !stands_in(tlv, before),
     }
 }
 
@@ -185,6 +163,6 @@ pub(crate) fn decides(test: Test, before: &[u8], rest: &[u8]) -> bool
         Test::Tag(tag) => matches!(rest, [first, ..] if *first == tag),
         Test::Comes => matches!(rest, [_, ..]),
         Test::FirstIs(name) => part(0, before) == name.content(),
-        Test::Has(name) => is_listed(name.content(), before),
+        Test::Has(name) => has_named(name.content(), before),
     }
 }

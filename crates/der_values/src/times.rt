@@ -2,7 +2,7 @@
 
 ghost use Rattle.std.specs.Prelude.{◌≡◌, ◌+◌, ◌-◌, ◌*◌, ◌<◌, ◌≤◌, ◌≤ℤ◌, ◌^◌, ◌↔◌, IfSome, IsSome, IsTrue, pos, length};
 ghost use Rattle.std.specs.List.{list_all, list_any};
-ghost use Rattle.der_values.specs.Times.{digits_from, number_at, is_real, seconds_to, real_seconds, moment_at, utc_time, utc_parts, rounding, fraction, is_digit, is_above_zero, is_z, last_second, generalized_time, generalized_parts, seconds_of, plain_seconds_of};
+ghost use Rattle.der_values.specs.Times.{digits_from, number_at, is_real, seconds_to, real_seconds, moment_at, utc_time, utc_parts, rounding, fraction, is_digit, is_above_zero, is_z, IsInYears, generalized_time, generalized_parts, seconds_of, plain_seconds_of};
 ghost use Rattle.der_values.specs.View.{view, seen};
 
 use crate::tlv::Tlv;
@@ -63,7 +63,7 @@ fn civil_seconds(m: &Moment) -> Option<i64>
     requires time { (m.now.hour ≤ 99) × (m.now.minute ≤ 99) × (m.now.second ≤ 99) }
     ensures found { IsSome result ↔ IsTrue (is_real (seen m.now)) }
     ensures value { IfSome result (λ s. s ≡ seconds_to (seen m.now)) }
-    ensures most { IfSome result (λ s. s ≤ℤ last_second) }
+    ensures range { IfSome result IsInYears }
 {
     match DateTime::new(
         m.year as i16,
@@ -84,7 +84,7 @@ fn seconds_at(year: u16, place: usize, text: &[u8]) -> Option<i64>
     requires year { year ≤ 9999 }
     requires within { place + 10 ≤ length text.now }
     ensures value { result ≡ moment_at year place text.now }
-    ensures most { IfSome result (λ s. s ≤ℤ last_second) }
+    ensures range { IfSome result IsInYears }
 {
     let month = two_at(place, text)?;
     let day = two_at(place + 2, text)?;
@@ -110,7 +110,8 @@ fn ends(text: &[u8]) -> bool
 
 #[tactic(auto, unfolding(crate::specs::Times::utc_time, crate::specs::Times::utc_parts))]
 fn utc(text: &[u8]) -> Option<i64>
-    ensures { result ≡ utc_time text.now }
+    ensures value { result ≡ utc_time text.now }
+    ensures range { IfSome result IsInYears }
 {
     if text.len() != 13 {
         return None;
@@ -167,7 +168,8 @@ fn rounded(text: &[u8]) -> Option<i64>
 
 #[tactic(auto, unfolding(crate::specs::Times::generalized_time, crate::specs::Times::generalized_parts))]
 fn generalized(text: &[u8]) -> Option<i64>
-    ensures { result ≡ generalized_time text.now }
+    ensures value { result ≡ generalized_time text.now }
+    ensures range { IfSome result IsInYears }
 {
     if text.len() < 15 {
         return None;
@@ -185,11 +187,12 @@ fn generalized(text: &[u8]) -> Option<i64>
 
 /// The seconds since 1970 of a UTCTime or a GeneralizedTime in DER (X.690, 11.7 and 11.8).
 ///
-/// A fraction is rounded up; a reader that allows none refuses it itself. `None` where the element is neither, its text isn't of
+/// The years are 0000 to 9999. A fraction is rounded up; a reader that allows none refuses it itself. `None` where the element is neither, its text isn't of
 /// the form, it names no real date and time, or, rounded up, it lies after the year 9999.
 #[tactic(auto, unfolding(crate::specs::Times::seconds_of))]
 pub fn seconds(tlv: &Tlv<'_>) -> Option<i64>
-    ensures { result ≡ seconds_of (view tlv.now) }
+    ensures value { result ≡ seconds_of (view tlv.now) }
+    ensures range { IfSome result IsInYears }
 {
     match tlv.tag {
         23 => utc(tlv.content),
@@ -201,7 +204,8 @@ pub fn seconds(tlv: &Tlv<'_>) -> Option<i64>
 /// The same of a time that may have no fraction (RFC 5280, 4.1.2.5).
 #[tactic(auto, unfolding(crate::specs::Times::plain_seconds_of))]
 pub fn plain_seconds(tlv: &Tlv<'_>) -> Option<i64>
-    ensures { result ≡ plain_seconds_of (view tlv.now) }
+    ensures value { result ≡ plain_seconds_of (view tlv.now) }
+    ensures range { IfSome result IsInYears }
 {
     if tlv.tag == 24 && tlv.content.len() != 15 {
         return None;

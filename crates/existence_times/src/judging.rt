@@ -62,15 +62,25 @@ pub(crate) fn is_token_accepted(
     Ok(answer)
 }
 
-/// The time that a token proves by the policy: its genTime, in version 1.
+// The time that a token proves by the policy.
 #[tactic(auto, unfolding(acceptance::specs::Objects::token_of))]
+fn proof_time_of(policy: &Policy, token: &Token<'_>) -> i64
+    ensures { result ≡ stamping.proof_time (rules policy.now) (token_of (token_bytes token.now)) }
+{
+    if policy.version() == 2 {
+        token.gen_time() + i64::from(token.accuracy())
+    } else {
+        token.gen_time()
+    }
+}
+
+/// The time that a token proves by the policy: its genTime, and by version 2 its accuracy later.
 pub(crate) fn proof_time(policy: &Policy, bytes: &[u8]) -> i64
     requires { IsObject layout.token bytes.now }
     ensures { result ≡ stamping.proof_time (rules policy.now) (token_of bytes.now) }
 {
-    let _version = policy.version();
     match read_token(bytes) {
-        Ok(token) => token.gen_time(),
+        Ok(token) => proof_time_of(policy, &token),
         Err(_) => unreachable!(),
     }
 }

@@ -67,11 +67,11 @@ fn judge_stamp(
     ensures same { IfOk result (λ changed. IsFalse changed → times.new ≡ times.old) }
     ensures len { IfOk result (λ changed. length times.new ≡ length times.old) }
 {
-    let bytes = bytes_of(tokens, stamp.token);
-    let bound = proof_time(policy, bytes);
     if !stamp.sound {
         return Ok(false);
     }
+    let bytes = bytes_of(tokens, stamp.token);
+    let bound = proof_time(policy, bytes);
     if is_met(times, stamp.covers.as_slice(), bound) {
         return Ok(false);
     }

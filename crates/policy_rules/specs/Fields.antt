@@ -4,7 +4,7 @@ use Rattle.std.specs.Option.{option_and_then}
 use Rattle.std.specs.Str.{bytes_eq}
 use Rattle.toml.specs.Data.{Data, Members, no_members, member, Items, no_items, item, get_member, as_integer, as_str, as_array, as_table}
 use Rattle.algorithms.specs.declared.signature_kinds.SignatureKind.{SignatureKind}
-use Rattle.algorithms.specs.declared.signature_kinds.SignatureKind.TheVariants.{Hss, Xmss}
+use Rattle.algorithms.specs.declared.signature_kinds.SignatureKind.TheVariants.{Hss, Xmss, XmssMt}
 use Rattle.algorithms.specs.declared.digest_kinds.DigestKind.{DigestKind}
 use Rattle.algorithms.specs.declared.digest_kinds.DigestKind.TheVariants.{Sha256, Sha384, Sha512}
 use Rattle.algorithms.specs.SignatureKind as signatures
@@ -41,9 +41,9 @@ abbrev pub first_unknown : Place → Members → Option (List ℕ)
 first_unknown place no_members = None
 first_unknown place (member key d table) = if is_known place key then first_unknown place table else Some key
 
--- `version` is the integer 1
+-- `version` is the integer 1 or 2
 abbrev pub version_in : ℤ → Option ℕ
-version_in (pos n) = if n == 1 then Some 1 else None
+version_in (pos n) = if n == 1 then Some 1 else if n == 2 then Some 2 else None
 version_in _ = None
 
 unfoldable pub version_of : Members → Option ℕ
@@ -76,7 +76,11 @@ abbrev pub end_at : Members → Option (Option ℤ)
 end_at table = end_in (get_member (codes "until") table)
 
 abbrev pub signature_kind : List ℕ → Option SignatureKind
-signature_kind word = if bytes_eq word (signatures.word_of Hss) then Some Hss else if bytes_eq word (signatures.word_of Xmss) then Some Xmss else None
+signature_kind word =
+    if bytes_eq word (signatures.word_of Hss) then Some Hss
+    else if bytes_eq word (signatures.word_of Xmss) then Some Xmss
+    else if bytes_eq word (signatures.word_of XmssMt) then Some XmssMt
+    else None
 
 abbrev pub digest_kind : List ℕ → Option DigestKind
 digest_kind word =

@@ -1,6 +1,6 @@
 //! What a policy says.
 
-ghost use Rattle.std.specs.Prelude.{◌≡◌, ◌<◌, ◌↔◌, Some, IsTrue, length, slice_get};
+ghost use Rattle.std.specs.Prelude.{◌≡◌, ◌<◌, ◌≤◌, ◌↔◌, Some, IsTrue, length, slice_get};
 ghost use Rattle.der_values.specs.Fits.{IsObject};
 ghost use Rattle.x509_certs.specs.Certificates as certificates;
 ghost use Rattle.x509_certs.specs.Layouts as layout;
@@ -46,10 +46,10 @@ fn names(entry: &KindEntry, uri: &str) -> bool
 }
 
 impl Policy {
-    /// The version of the text's format, which is 1.
+    /// The version of the text's format, 1 or 2. By version 2 a token proves its time plus its accuracy.
     pub fn version(&self) -> u32
         ensures value { result ≡ (rules self.now).version }
-        ensures one { result ≡ 1 }
+        ensures known { (1 ≤ result) × (result ≤ 2) }
     {
         self.version
     }
@@ -94,7 +94,8 @@ impl Policy {
 
     /// How many anchors there are: 1 to 64.
     pub fn anchors(&self) -> usize
-        ensures { result ≡ length (rules self.now).anchors }
+        ensures value { result ≡ length (rules self.now).anchors }
+        ensures range { (1 ≤ result) × (result ≤ 64) }
     {
         self.anchors.len()
     }

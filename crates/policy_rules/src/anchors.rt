@@ -1,6 +1,6 @@
 //! The trust anchors.
 
-ghost use Rattle.std.specs.Prelude.{◌≡◌, ◌≤◌, length, map, IfOk};
+ghost use Rattle.std.specs.Prelude.{◌≡◌, ◌≤◌, length, map, IfOk, vec_len};
 ghost use Rattle.policy_rules.specs.Faults.{Gives, GivesValue};
 ghost use Rattle.base64.specs.Engines.{standard};
 ghost use Rattle.base64.specs.GeneralPurpose.{decoded_of};
@@ -50,6 +50,7 @@ pub(crate) fn anchors(alloc: Global, texts: &[&str]) -> Result<Vec<Vec<u8>>, Pol
     requires { length texts.now ≤ 64 }
     ensures value { Gives (λ v. map (λ a. a.items) v.items) result (anchors_from 1 (map (λ s. s.now) texts.now)) }
     ensures whole { IfOk result (λ v. AreWhole v.items) }
+    ensures each { IfOk result (λ v. vec_len v ≡ length texts.now) }
 {
     let mut anchors = Vec::new(alloc);
     let mut number: u32 = 1;

@@ -1,6 +1,6 @@
 //! The fields of a table.
 
-ghost use Rattle.std.specs.Prelude.{◌≡◌, None, Some, is_none, option_map, IfOk};
+ghost use Rattle.std.specs.Prelude.{◌≡◌, ◌≤◌, None, Some, is_none, option_map, IfOk};
 ghost use Rattle.toml.specs.Data.{get_member};
 ghost use Rattle.toml.specs.View.{view, table_view, array_view};
 ghost use Rattle.utc_times.specs.TimeText.{time_of};
@@ -53,17 +53,18 @@ pub(crate) fn list_at<'a>(key: &str, table: &'a Table) -> Result<&'a Array, Fiel
     }
 }
 
-/// The version, of which there is one alone.
+/// The version, which is 1 or 2.
 #[tactic(auto, unfolding(crate::specs::Fields::version_of))]
 pub(crate) fn version(table: &Table) -> Result<u32, FieldError>
     ensures value { GivesValue (λ v. v) result (meaning.version_of (table_view table.now)) }
-    ensures one { IfOk result (λ v. v ≡ 1) }
+    ensures known { IfOk result (λ v. (1 ≤ v) × (v ≤ 2)) }
 {
     let Some(value) = value_at("version", table) else {
         return Err(FieldError::Refused);
     };
     match value.as_integer() {
         Some(1) => Ok(1),
+        Some(2) => Ok(2),
         _ => Err(FieldError::Refused),
     }
 }
@@ -98,6 +99,8 @@ pub(crate) fn signature_kind(word: &str) -> Result<SignatureKind, FieldError>
         Ok(SignatureKind::Hss)
     } else if word == SignatureKind::Xmss.word() {
         Ok(SignatureKind::Xmss)
+    } else if word == SignatureKind::XmssMt.word() {
+        Ok(SignatureKind::XmssMt)
     } else {
         Err(FieldError::Refused)
     }

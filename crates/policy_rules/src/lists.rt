@@ -36,6 +36,7 @@ fn texts<'a>(alloc: Global, listed: &'a Array) -> Result<Vec<&'a str>, FieldErro
 #[tactic(auto, unfolding(crate::specs::Fields::anchor_texts))]
 pub(crate) fn anchor_texts(alloc: Global, table: &Table) -> Result<Vec<&str>, FieldError>
     ensures value { GivesValue (λ v. map (λ s. s.now) v.items) result (meaning.anchor_texts (table_view table.now)) }
+    ensures some { IfOk result (λ v. 1 ≤ vec_len v) }
     ensures few { IfOk result (λ v. vec_len v ≤ 64) }
 {
     let listed = list_at("anchors", table)?;

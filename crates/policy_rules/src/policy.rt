@@ -1,6 +1,6 @@
 //! Policies.
 
-ghost use Rattle.std.specs.Prelude.{◌≡◌};
+ghost use Rattle.std.specs.Prelude.{◌≤◌, vec_len};
 ghost use Rattle.policy_rules.specs.Whole.{AreWhole};
 
 use crate::entries::{DigestEntry, KindEntry};
@@ -13,5 +13,7 @@ pub struct Policy {
     pub(crate) kinds: Vec<KindEntry>,
     pub(crate) digests: Vec<DigestEntry>,
     ghost whole: { AreWhole anchors.items },
-    ghost version_is: { version ≡ 1 },
+    ghost known: { (1 ≤ version) × (version ≤ 2) },
+    ghost some: { 1 ≤ vec_len anchors },
+    ghost few: { vec_len anchors ≤ 64 },
 }

@@ -37,7 +37,7 @@ fn read_table(alloc: Global, bytes: &[u8]) -> Result<Table, PolicyFault>
 
 fn version_field(alloc: Global, table: &Table) -> Result<u32, PolicyFault>
     ensures value { Gives (λ v. v) result (of_field (codes "version") (meaning.version_of (table_view table.now))) }
-    ensures one { IfOk result (λ v. v ≡ 1) }
+    ensures known { IfOk result (λ v. (1 ≤ v) × (v ≤ 2)) }
 {
     match version(table) {
         Ok(version) => Ok(version),
@@ -47,6 +47,7 @@ fn version_field(alloc: Global, table: &Table) -> Result<u32, PolicyFault>
 
 fn anchors_field(alloc: Global, table: &Table) -> Result<Vec<&str>, PolicyFault>
     ensures value { Gives (λ v. map (λ s. s.now) v.items) result (of_field (codes "anchors") (meaning.anchor_texts (table_view table.now))) }
+    ensures some { IfOk result (λ v. 1 ≤ vec_len v) }
     ensures few { IfOk result (λ v. vec_len v ≤ 64) }
 {
     match anchor_texts(alloc, table) {

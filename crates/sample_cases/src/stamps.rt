@@ -1,6 +1,6 @@
 //! Time-stamps by the octets of their tokens.
 
-ghost use Rattle.std.specs.Prelude.{◌≡◌, ◌∷◌, ◌++◌, ◌<◌, [], length, map, All, IfOk, OnOk};
+ghost use Rattle.std.specs.Prelude.{◌≡◌, ◌∷◌, ◌++◌, ◌<◌, [], length, map, All, IfOk, OnOk, OnErr};
 ghost use Rattle.tst_tokens.specs.View.{token_bytes};
 ghost use Rattle.acceptance.specs.Objects.{token_of};
 ghost use Rattle.cert_paths.specs.Pool.{Keeps};
@@ -19,6 +19,7 @@ use tst_tokens::{Token, read_token};
 fn put_signer(case: &mut Case, token: &Token<'_>) -> Result<(), CaseFault>
     ensures signer { OnOk result (HasSignerOf case.new.pool (token_of (token_bytes token.now))) }
     ensures kept { OnOk result (KeepsCase case.old case.new) }
+    ensures err { OnErr result (case.new ≡ case.old) }
 {
     let Some(signer) = token.signer() else {
         return Err(CaseFault::NoSigner);
@@ -49,6 +50,7 @@ pub fn put_token(case: &mut Case, token: &[u8]) -> Result<ObjectId, CaseFault>
     ensures token { IfOk result (λ id. HasToken case.new id.number token.now) }
     ensures signer { OnOk result (HasSignerOf case.new.pool (token_of token.now)) }
     ensures kept { OnOk result (KeepsCase case.old case.new) }
+    ensures err { OnErr result (case.new.stamps ≡ case.old.stamps) }
 {
     let Ok(read) = read_token(token) else {
         return Err(CaseFault::Shape);
@@ -75,6 +77,7 @@ pub fn put_stamp(
     ensures stamp { IfOk result (λ id. case.new.stamps ≡ case.old.stamps ++ record { object = id.number; token = token.now; sound = sound; covers = covers.now } ∷ []) }
     ensures token { IfOk result (λ id. HasToken case.new id.number token.now) }
     ensures kept { OnOk result (Keeps case.old.pool case.new.pool) }
+    ensures err { OnErr result (case.new.stamps ≡ case.old.stamps) }
 {
     let object = put_token(case, token)?;
     let covered = objects_of(alloc, case.pool(), covers)?;

@@ -8,7 +8,9 @@ pub mod LmsTwoLevels
 pub mod XmssChains
 pub mod XmssClimb
 pub mod XmssPlaces
+pub mod XmssRoots
 pub mod XmssHolds
+pub mod XmssMtHolds
 pub mod Trees
 pub mod WorldLaws
 pub mod XmssTrees

@@ -1,34 +1,45 @@
--- Values of 32 octets, joined.
-use Rattle.std.proofs.Common.{◌≡◌, ℕ, zero, suc, ◌+◌, ◌*◌, ◌<◌, ◌≤◌, List, ◌++◌, length, drop, refl, ◌∙◌, inl, inr, arith, length-append, length-drop}
+-- Values of one length, joined.
+use Rattle.std.proofs.Common.{◌≡◌, ℕ, zero, suc, ◌+◌, ◌*◌, ◌<◌, ◌≤◌, List, ◌++◌, length, take, drop, mul-zero, mul-suc, mul-le-mul_left, refl, ◌∙◌, inl, inr, arith, length-append, length-drop}
 use Rattle.std.proofs.lemmas.List.{drop-append-le, take-append-le, drop_at, take_all}
 use Rattle.std.proofs.lemmas.Bool.{cases_lt}
 use Rattle.lms_verify.specs.LmOts.{value_at}
 use Rattle.sample_world.specs.Joined.{joined}
 
-pub length-joined : (f : ℕ → List ℕ) (n : ℕ) → ((i : ℕ) → length (f i) ≡ 32) → length (joined f n) ≡ 32 * n
+pub length-blocks : (size : ℕ) (f : ℕ → List ℕ) (n : ℕ) → ((i : ℕ) → length (f i) ≡ size) → length (joined f n) ≡ size * n
 unfolding joined
-length-joined f zero each = refl
-length-joined f (suc n) each = let before = length-joined f n each in let here = each n in rw length-append (omega arith)
+length-blocks size f zero each = rw mul-zero refl
+length-blocks size f (suc n) each = rw (length-append, length-blocks size f n each, each n, mul-suc) (omega arith)
 
-last_value : (a b : List ℕ) (n : ℕ) → length a ≡ 32 * n → length b ≡ 32 → value_at (a ++ b) n ≡ b
-last_value a b n la lb = rw (drop_at a b (32 * n) la) (take_all 32 b (omega arith))
+last_block : (size : ℕ) (a b : List ℕ) (at : ℕ) → length a ≡ at → length b ≡ size → take size (drop at (a ++ b)) ≡ b
+last_block size a b at la lb = rw (drop_at a b at la) (take_all size b (omega arith))
 
-earlier_value : (a b : List ℕ) (i : ℕ) → 32 * i + 32 ≤ length a → value_at (a ++ b) i ≡ value_at a i
-earlier_value a b i room =
-    let left = length-drop (32 * i) a in
-    rw (drop-append-le (32 * i) a b (omega arith)) (take-append-le 32 (drop (32 * i) a) b (omega arith))
+earlier_block : (size : ℕ) (a b : List ℕ) (at : ℕ) → at + size ≤ length a → take size (drop at (a ++ b)) ≡ take size (drop at a)
+earlier_block size a b at room =
+    let left = length-drop at a in
+    rw (drop-append-le at a b (omega arith)) (take-append-le size (drop at a) b (omega arith))
 
-pub value_at-joined : (f : ℕ → List ℕ) (n i : ℕ) → ((i : ℕ) → length (f i) ≡ 32) → i < n → value_at (joined f n) i ≡ f i
+-- where block i ends, block i + 1 begins
+next_block : (size i n : ℕ) → i < n → size * i + size ≤ size * n
+next_block size i n h = rw (← mul-suc) (mul-le-mul_left size h)
+
+pub part_at-joined : (size : ℕ) (f : ℕ → List ℕ) (n i : ℕ) → ((i : ℕ) → length (f i) ≡ size) → i < n → take size (drop (size * i) (joined f n)) ≡ f i
 unfolding joined
-value_at-joined f zero i each h = absurd (omega arith)
-value_at-joined f (suc n) i each h =
-    let long = length-joined f n each in
+part_at-joined size f zero i each h = absurd (omega arith)
+part_at-joined size f (suc n) i each h =
+    let long = length-blocks size f n each in
     elim (cases_lt i n) [
-      | inl below ↦ earlier_value (joined f n) (f n) i (omega arith) ∙ value_at-joined f n i each below
+      | inl below ↦
+          earlier_block size (joined f n) (f n) (size * i) (rw long (next_block size i n below)) ∙ part_at-joined size f n i each below
       | inr above ↦
           let same : i ≡ n = omega arith in
-          rw same (last_value (joined f n) (f n) n long (each n))
+          rw same (last_block size (joined f n) (f n) (size * n) long (each n))
     ]
+
+pub length-joined : (f : ℕ → List ℕ) (n : ℕ) → ((i : ℕ) → length (f i) ≡ 32) → length (joined f n) ≡ 32 * n
+length-joined = length-blocks 32
+
+pub value_at-joined : (f : ℕ → List ℕ) (n i : ℕ) → ((i : ℕ) → length (f i) ≡ 32) → i < n → value_at (joined f n) i ≡ f i
+value_at-joined = part_at-joined 32
 
 pub joined_same : (f g : ℕ → List ℕ) (n : ℕ) → ((i : ℕ) → i < n → f i ≡ g i) → joined f n ≡ joined g n
 unfolding joined

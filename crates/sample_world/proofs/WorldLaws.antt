@@ -10,13 +10,18 @@ use Rattle.lms_verify.specs.Hss.{verdict}
 use Rattle.sample_world.specs.LmsKeys.{lms_signature}
 use Rattle.xmss_verify.specs.declared.Verdict.TheVariants as xmss_good
 use Rattle.xmss_verify.specs.Xmss as xmss
+use Rattle.xmss_definitions.specs.Keys as keys
+use Rattle.xmssmt_verify.specs.declared.Verdict.TheVariants as xmssmt_good
+use Rattle.xmssmt_verify.specs.XmssMt as xmssmt
 use Rattle.sample_world.specs.XmssKeys.{signature}
-use Rattle.sample_world.specs.World.{Ledger, id_of, seed_of, randomizer, key_of, signature_of, two_signatures_of, xmss_secret, xmss_seed, xmss_randomizer, xmss_key_of, xmss_signature_of}
+use Rattle.sample_world.specs.XmssMtKeys.{mt_signature}
+use Rattle.sample_world.specs.World.{Ledger, id_of, seed_of, randomizer, key_of, signature_of, two_signatures_of, xmss_secret, xmss_seed, xmss_randomizer, xmss_key_of, xmss_signature_of, xmssmt_secret, xmssmt_seed, xmssmt_randomizer, xmssmt_key_of, xmssmt_signature_of}
 use Rattle.sample_world.proofs.LmsPlaces.{u32_front, u32_after}
 use Rattle.sample_world.proofs.LmsHolds.{signatures_hold}
 use Rattle.sample_world.proofs.LmsTwoLevels.{two_levels_hold}
 use Rattle.sample_world.proofs.XmssPlaces as xmss_places
 use Rattle.sample_world.proofs.XmssHolds as xmss_laws
+use Rattle.sample_world.proofs.XmssMtHolds.{mt_signatures_hold, index_is}
 
 length-id : (s : List ℕ) (j : ℕ) → length (id_of s j) ≡ 16
 unfolding id_of
@@ -70,6 +75,31 @@ xmss_signature_good w message s e left =
 
 -- its number is the count of the earlier ones
 pub xmss_signature_number : (w : Ledger) (message s : List ℕ) → s ≡ xmss_signature_of w message → w.xmss_used < 1024
-    → xmss.u32_at s 0 ≡ w.xmss_used
+    → keys.u32_at s 0 ≡ w.xmss_used
 unfolding signature
 xmss_signature_number w message s e left = rw e (xmss_places.u32_front w.xmss_used _ (omega arith))
+
+length-xmssmt_secret : (s : List ℕ) (l t f i : ℕ) → length (xmssmt_secret s l t f i) ≡ 32
+unfolding xmssmt_secret
+length-xmssmt_secret s l t f i = length-sha256 _
+
+length-xmssmt_seed : (s : List ℕ) → length (xmssmt_seed s) ≡ 32
+unfolding xmssmt_seed
+length-xmssmt_seed s = length-sha256 _
+
+length-xmssmt_randomizer : (s : List ℕ) (idx : ℕ) → length (xmssmt_randomizer s idx) ≡ 32
+unfolding xmssmt_randomizer
+length-xmssmt_randomizer s idx = length-sha256 _
+
+-- an XMSS^MT signature holds
+pub xmssmt_signature_good : (w : Ledger) (message s : List ℕ) → s ≡ xmssmt_signature_of w message → w.xmssmt_used < 1024
+    → xmssmt.verdict (xmssmt_key_of w) message s ≡ xmssmt_good.Good
+xmssmt_signature_good w message s e left =
+    rw e (mt_signatures_hold (xmssmt_seed w.secret) (xmssmt_secret w.secret) w.xmssmt_used (xmssmt_randomizer w.secret w.xmssmt_used) message
+    (length-xmssmt_seed w.secret) (length-xmssmt_secret w.secret) (length-xmssmt_randomizer w.secret w.xmssmt_used) (omega arith))
+
+-- its number is the count of the earlier ones
+pub xmssmt_signature_number : (w : Ledger) (message s : List ℕ) → s ≡ xmssmt_signature_of w message → w.xmssmt_used < 1024
+    → xmssmt.index_of 20 s ≡ w.xmssmt_used
+unfolding mt_signature
+xmssmt_signature_number w message s e left = rw e (index_is w.xmssmt_used _ (omega arith))

@@ -3,15 +3,15 @@ use Rattle.std.proofs.Common.{◌≡◌, ℕ, ◌/◌, ◌^◌, ◌<◌, List, �
 use Rattle.std.proofs.lemmas.Bool.Decides.{nat_tests}
 use Rattle.std.proofs.lemmas.Slice.Eq.{bytes_eq-Decides}
 use Rattle.xmss_verify.specs.declared.Verdict.TheVariants.{Good}
-use Rattle.xmss_verify.specs.Address.{word}
-use Rattle.xmss_verify.specs.Wots.{chain, digit, digits, ends}
-use Rattle.xmss_verify.specs.Tree.{l_tree, node_over}
-use Rattle.xmss_verify.specs.Xmss.{part, u32_at, root_of, seed_of, is_known, is_signature, message_digest, root_from, root_under, judge, verdict_under, verdict}
-use Rattle.sample_world.specs.Joined.{sibling}
-use Rattle.sample_world.specs.XmssKeys.{leaf, node, key, ots_values, path, signature}
-use Rattle.sample_world.proofs.Rows.{length-joined}
-use Rattle.sample_world.proofs.XmssChains.{ends_are, length-chain}
-use Rattle.sample_world.proofs.XmssClimb.{climbs, length-node}
+use Rattle.xmss_definitions.specs.Address.{Tree, only_tree, word}
+use Rattle.xmss_definitions.specs.Octets.{part}
+use Rattle.xmss_definitions.specs.Wots.{chain, digit, digits, ends}
+use Rattle.xmss_definitions.specs.Nodes.{l_tree, node_over, root_from}
+use Rattle.xmss_definitions.specs.Keys.{u32_at, root_of, seed_of, message_digest}
+use Rattle.xmss_verify.specs.Xmss.{is_known, is_signature, root_under, judge, verdict_under, verdict}
+use Rattle.sample_world.specs.XmssKeys.{node, key, ots_values, path, signature}
+use Rattle.sample_world.proofs.XmssClimb.{length-node}
+use Rattle.sample_world.proofs.XmssRoots.{length-values, length-path, made_root}
 use Rattle.sample_world.proofs.Places.{part_is, last_part_is}
 use Rattle.sample_world.proofs.XmssPlaces.{u32_front}
 
@@ -60,8 +60,8 @@ unfolding is_signature
 signature_is s idx r y p small made = rw (made.long, made.leaf_is) (below_1024 idx small)
 
 root_is : (k root seed s message : List ℕ) (idx : ℕ) (r y p : List ℕ) → IsKey k root seed → IsSignature s idx r y p
-    → root_under 10 k message s ≡ node_over seed idx p (l_tree seed idx (ends seed idx (digits (message_digest r root idx message)) y 67)) 10
-unfolding root_under root_from
+    → root_under 10 k message s ≡ root_from 10 (only_tree seed) idx (message_digest r root idx message) y p
+unfolding root_under
 root_is k root seed s message idx r y p has made =
     rw (made.leaf_is, made.r_is, made.y_is, made.p_is, has.root_is, has.seed_is) refl
 
@@ -76,34 +76,20 @@ good k root seed s message idx r y p small has made is_root =
     let shape = signature_is s idx r y p small made in
     rw (has.long, known, has.set, shape) (same_root (root_under 10 k message s) (root_of k) (is_root ∙ sym has.root_is))
 
-length-values : (seed : List ℕ) (x : ℕ → ℕ → List ℕ) (idx : ℕ) (digest : List ℕ) → ((l i : ℕ) → length (x l i) ≡ 32) → length (ots_values seed x idx digest) ≡ 2144
-unfolding ots_values
-length-values seed x idx digest each =
-    length-joined (λ i. chain seed idx i 0 (digit (digits digest) i) (x idx i)) 67 (λ i. length-chain seed idx i 0 (digit (digits digest) i) (x idx i) (each idx i))
-
-length-path : (seed : List ℕ) (x : ℕ → ℕ → List ℕ) (idx : ℕ) → ((l i : ℕ) → length (x l i) ≡ 32) → length (path seed x idx) ≡ 320
-unfolding path
-length-path seed x idx each = length-joined (λ k. node seed x (sibling (idx / 2 ^ k)) k) 10 (λ k. length-node seed x (sibling (idx / 2 ^ k)) k each)
-
-leaf_from : (seed : List ℕ) (x : ℕ → ℕ → List ℕ) (idx : ℕ) (digest : List ℕ) → ((l i : ℕ) → length (x l i) ≡ 32)
-    → l_tree seed idx (ends seed idx (digits digest) (ots_values seed x idx digest) 67) ≡ leaf seed x idx
-unfolding leaf
-leaf_from seed x idx digest each = ap (l_tree seed idx) (ends_are seed x idx digest (each idx))
-
 -- a signature made so holds, whichever secrets, leaf, randomizer and message
 pub signatures_hold : (seed : List ℕ) (x : ℕ → ℕ → List ℕ) (idx : ℕ) (r message : List ℕ)
     → length seed ≡ 32 → ((l i : ℕ) → length (x l i) ≡ 32) → length r ≡ 32 → idx < 1024
     → verdict (key seed x) message (signature seed x idx r message) ≡ Good
 unfolding key signature
 signatures_hold seed x idx r message ls each lr small =
-    let root = node seed x 0 10 in
+    let tree = only_tree seed in
+    let root = node tree x 0 10 in
     let digest = message_digest r root idx message in
-    let y = ots_values seed x idx digest in
-    let p = path seed x idx in
-    let has = made_key root seed (length-node seed x 0 10 each) ls in
-    let made = made_signature idx r y p small lr (length-values seed x idx digest each) (length-path seed x idx each) in
+    let y = ots_values tree x idx digest in
+    let p = path 10 tree x idx in
+    let has = made_key root seed (length-node tree x 0 10 each) ls in
+    let made = made_signature idx r y p small lr (length-values tree x idx digest each) (length-path 10 tree x idx each) in
     let k = word 1 ++ (root ++ seed) in
     let s = word idx ++ (r ++ (y ++ p)) in
     let under = root_is k root seed s message idx r y p has made in
-    let climbed = rw (leaf_from seed x idx digest each) at under in
-    good k root seed s message idx r y p small has made (climbed ∙ climbs seed x idx each small)
+    good k root seed s message idx r y p small has made (under ∙ made_root 10 tree x idx digest each small)

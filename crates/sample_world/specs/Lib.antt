@@ -2,6 +2,7 @@ pub mod Joined
 pub mod LmsSeed
 pub mod LmsKeys
 pub mod XmssKeys
+pub mod XmssMtKeys
 pub mod World
 pub mod Counts
 pub mod Moments
@@ -10,3 +11,4 @@ pub mod Certificates
 pub mod Lists
 pub mod Tokens
 pub mod Objects
+pub mod MtTrees

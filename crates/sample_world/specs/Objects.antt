@@ -28,10 +28,14 @@ token_with w signer whole kind info =
     let signed = attributes kind info whole in
     token (signed_data kind info whole (signer_info kind whole signed (signature_of w signer (tlv 0x31 signed))))
 
--- the token over a covered digest; its serial is the number of the tokens before it and 1
+-- the token over a covered digest, with an accuracy in seconds; its serial is the number of the tokens before it and 1
+abbrev pub token_within : Ledger → (signer : ℕ) → (whole covered : List ℕ) → DigestKind → ℤ → (accuracy : ℕ) → List ℕ
+token_within w signer whole covered kind gen_time accuracy =
+    token_with w signer whole kind (stamp_info kind covered (w.tokens + 1) gen_time accuracy)
+
+-- the token without an accuracy
 abbrev pub token_of : Ledger → (signer : ℕ) → (whole covered : List ℕ) → DigestKind → ℤ → List ℕ
-token_of w signer whole covered kind gen_time =
-    token_with w signer whole kind (stamp_info kind covered (w.tokens + 1) gen_time)
+token_of w signer whole covered kind gen_time = token_within w signer whole covered kind gen_time 0
 
 -- a world in which LMS key j has made one signature more, for a token
 abbrev pub token_counted : Ledger → ℕ → Ledger

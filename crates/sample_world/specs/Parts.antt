@@ -5,12 +5,13 @@ use Rattle.xa_io.specs.Tlv.{tlv}
 use Rattle.algorithms.specs.SignatureKind.{oid_of}
 use Rattle.algorithms.specs.declared.signature_kinds.SignatureKind.TheVariants.{Hss}
 
--- the content of an INTEGER below 2^23 that isn't negative: the fewest bytes of which the first is below 128 (X.690, 8.3)
+-- the content of an INTEGER below 2^31 that isn't negative: the fewest bytes of which the first is below 128 (X.690, 8.3)
 unfoldable pub integer_content : ℕ → List ℕ
 integer_content n =
     if nat_lt n 0x80 then n ∷ []
     else if nat_lt n 0x8000 then (n / 0x100) ∷ (n % 0x100) ∷ []
-    else (n / 0x10000) ∷ (n / 0x100 % 0x100) ∷ (n % 0x100) ∷ []
+    else if nat_lt n 0x800000 then (n / 0x10000) ∷ (n / 0x100 % 0x100) ∷ (n % 0x100) ∷ []
+    else (n / 0x1000000) ∷ (n / 0x10000 % 0x100) ∷ (n / 0x100 % 0x100) ∷ (n % 0x100) ∷ []
 
 -- an INTEGER
 abbrev pub integer : ℕ → List ℕ

@@ -1,5 +1,5 @@
 -- The time-stamp tokens that a world makes: RFC 3161, 2.4.2, in SignedData of RFC 5652; RFC 5035, 3 and 4.
-use Rattle.std.specs.Prelude.{ℕ, ℤ, List, [], ◌∷◌, ◌++◌}
+use Rattle.std.specs.Prelude.{ℕ, ℤ, List, [], ◌∷◌, ◌++◌, if◌then◌else◌, ◌==◌}
 use Rattle.xa_io.specs.Tlv.{tlv}
 use Rattle.algorithms.specs.DigestKind.{oid_of}
 use Rattle.algorithms.specs.Digests.{digest_of}
@@ -28,10 +28,19 @@ policy = 0x2B ∷ 0x06 ∷ 0x01 ∷ 0x04 ∷ 0x01 ∷ 0x86 ∷ 0x8D ∷ 0x1F ∷
 unfoldable pub imprint : DigestKind → List ℕ → List ℕ
 imprint kind covered = tlv 0x30 (digest_algorithm kind ++ tlv 0x04 covered)
 
--- TSTInfo: version 1, policy, imprint, serial, genTime, and nothing that is optional
-unfoldable pub stamp_info : DigestKind → (covered : List ℕ) → (serial : ℕ) → ℤ → List ℕ
-stamp_info kind covered serial gen_time =
-    tlv 0x30 ((tlv 0x02 (1 ∷ []) ++ tlv 0x06 policy) ++ (imprint kind covered ++ (integer serial ++ generalized_time gen_time)))
+-- an Accuracy of whole seconds, which is left out where it is 0
+unfoldable pub accuracy_of : ℕ → List ℕ
+accuracy_of seconds = if seconds == 0 then [] else tlv 0x30 (integer seconds)
+
+-- genTime, and the accuracy behind it
+unfoldable pub time_within : ℤ → (accuracy : ℕ) → List ℕ
+time_within gen_time accuracy = generalized_time gen_time ++ accuracy_of accuracy
+
+-- TSTInfo: version 1, policy, imprint, serial, genTime, an accuracy, and nothing else that is optional
+unfoldable pub stamp_info : DigestKind → (covered : List ℕ) → (serial : ℕ) → ℤ → (accuracy : ℕ) → List ℕ
+stamp_info kind covered serial gen_time accuracy =
+    tlv 0x30 ((tlv 0x02 (1 ∷ []) ++ tlv 0x06 policy)
+    ++ (imprint kind covered ++ (integer serial ++ time_within gen_time accuracy)))
 
 -- the content that is signed, which is TSTInfo (RFC 5652, 5.2)
 unfoldable pub content : List ℕ → List ℕ

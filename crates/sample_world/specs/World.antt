@@ -5,12 +5,14 @@ use Rattle.sha2.specs.Sha256.{sha256}
 use Rattle.lms_verify.specs.LmOts.{u32str}
 use Rattle.sample_world.specs.LmsKeys.{hss_key, hss_signature, two_signatures}
 use Rattle.sample_world.specs.XmssKeys as xmss
+use Rattle.sample_world.specs.XmssMtKeys.{mt_key, mt_signature}
 
--- the world's secret, how many signatures each LMS key and the XMSS key have made, and how many tokens were made
+-- the world's secret, how many signatures each LMS key, the XMSS key and the XMSS^MT key have made, and how many tokens were made
 pub record Ledger : Type 0 where
   pub secret : List ℕ
   pub used : List ℕ
   pub xmss_used : ℕ
+  pub xmssmt_used : ℕ
   pub tokens : ℕ
 
 -- a world in which LMS key j has made one signature more
@@ -45,6 +47,18 @@ xmss_seed s = sha256 (s ++ codes "Y")
 unfoldable pub xmss_randomizer : (secret : List ℕ) → ℕ → List ℕ
 xmss_randomizer s idx = sha256 (s ++ codes "R" ++ u32str idx)
 
+-- the secret of chain i of leaf f of tree t of layer l of the XMSS^MT key
+unfoldable pub xmssmt_secret : (secret : List ℕ) → (l t f i : ℕ) → List ℕ
+xmssmt_secret s l t f i = sha256 (s ++ codes "Z" ++ u32str l ++ to_be_bytes w64 t ++ u32str f ++ u32str i)
+
+-- SEED of the XMSS^MT key
+unfoldable pub xmssmt_seed : (secret : List ℕ) → List ℕ
+xmssmt_seed s = sha256 (s ++ codes "W")
+
+-- r of XMSS^MT signature idx
+unfoldable pub xmssmt_randomizer : (secret : List ℕ) → ℕ → List ℕ
+xmssmt_randomizer s idx = sha256 (s ++ codes "Q" ++ to_be_bytes w64 idx)
+
 -- the HSS key of so many levels over LMS key j
 abbrev pub key_of : Ledger → (levels j : ℕ) → List ℕ
 key_of w levels j = hss_key levels (seed_of w.secret j) (id_of w.secret j)
@@ -71,3 +85,12 @@ xmss_key_of w = xmss.key (xmss_seed w.secret) (xmss_secret w.secret)
 abbrev pub xmss_signature_of : Ledger → (message : List ℕ) → List ℕ
 xmss_signature_of w message =
     xmss.signature (xmss_seed w.secret) (xmss_secret w.secret) w.xmss_used (xmss_randomizer w.secret w.xmss_used) message
+
+-- the XMSS^MT key
+abbrev pub xmssmt_key_of : Ledger → List ℕ
+xmssmt_key_of w = mt_key (xmssmt_seed w.secret) (xmssmt_secret w.secret)
+
+-- the signature that the XMSS^MT key makes next
+abbrev pub xmssmt_signature_of : Ledger → (message : List ℕ) → List ℕ
+xmssmt_signature_of w message =
+    mt_signature (xmssmt_seed w.secret) (xmssmt_secret w.secret) w.xmssmt_used (xmssmt_randomizer w.secret w.xmssmt_used) message

@@ -24,16 +24,24 @@ pub fn element(alloc: Global, tag: u8, content: &[u8]) -> Result<Octs, OutOfMemo
 /// Appends an INTEGER.
 #[tactic(auto, unfolding(crate::specs::Parts::integer_content))]
 pub fn put_integer(out: &mut Octs, number: u32) -> Result<(), OutOfMemory>
-    requires { number < 2 ^ 23 }
+    requires { number < 2 ^ 31 }
     ensures { OnOk result (out.new ≡ out.old ++ integer number) }
 {
     if number < 0x80 {
         put_tlv(out, 0x02, &[number as u8])
     } else if number < 0x8000 {
         put_tlv(out, 0x02, &[(number / 0x100) as u8, (number % 0x100) as u8])
-    } else {
+    } else if number < 0x800000 {
         let octets = [
             (number / 0x10000) as u8,
+            (number / 0x100 % 0x100) as u8,
+            (number % 0x100) as u8,
+        ];
+        put_tlv(out, 0x02, &octets)
+    } else {
+        let octets = [
+            (number / 0x1000000) as u8,
+            (number / 0x10000 % 0x100) as u8,
             (number / 0x100 % 0x100) as u8,
             (number % 0x100) as u8,
         ];

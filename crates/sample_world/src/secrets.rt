@@ -1,9 +1,10 @@
 //! The octets that follow from a world's secret: each is a hash of it, a letter and numbers.
 
 ghost use Rattle.std.specs.Prelude.{◌≡◌, ℕ, ◌++◌, ◌∷◌, []};
+ghost use Rattle.std.specs.Int.{w64, to_be_bytes};
 ghost use Rattle.sha2.specs.Sha256.{sha256};
 ghost use Rattle.lms_verify.specs.LmOts.{u32str};
-ghost use Rattle.sample_world.specs.World.{secret_of, id_of, seed_of, randomizer, xmss_secret, xmss_seed, xmss_randomizer};
+ghost use Rattle.sample_world.specs.World.{secret_of, id_of, seed_of, randomizer, xmss_secret, xmss_seed, xmss_randomizer, xmssmt_secret, xmssmt_seed, xmssmt_randomizer};
 
 use lms_verify::lm_ots::Id;
 use sha2::{Digest, Sha256};
@@ -91,4 +92,42 @@ pub fn xmss_randomizer(secret: &[u8; 32], idx: u32) -> [u8; 32]
     ensures { result ≡ xmss_randomizer secret.now idx }
 {
     by_number(secret, b'R', idx)
+}
+
+/// The secret of a chain of a leaf of a tree of the XMSS^MT key.
+#[tactic(auto, unfolding(crate::specs::World::xmssmt_secret))]
+pub fn xmssmt_secret(secret: &[u8; 32], layer: u32, tree: u64, leaf: u32, chain: u32) -> [u8; 32]
+    ensures { result ≡ xmssmt_secret secret.now layer tree leaf chain }
+{
+    let mut hasher = Sha256::new();
+    hasher.update(secret);
+    hasher.update(b"Z");
+    hasher.update(layer.to_be_bytes());
+    hasher.update(tree.to_be_bytes());
+    hasher.update(leaf.to_be_bytes());
+    hasher.update(chain.to_be_bytes());
+    hasher.finalize()
+}
+
+/// SEED of the XMSS^MT key.
+#[tactic(auto, unfolding(crate::specs::World::xmssmt_seed))]
+pub fn xmssmt_seed(secret: &[u8; 32]) -> [u8; 32]
+    ensures { result ≡ xmssmt_seed secret.now }
+{
+    let mut hasher = Sha256::new();
+    hasher.update(secret);
+    hasher.update(b"W");
+    hasher.finalize()
+}
+
+/// The randomizer `r` of XMSS^MT signature `idx`.
+#[tactic(auto, unfolding(crate::specs::World::xmssmt_randomizer))]
+pub fn xmssmt_randomizer(secret: &[u8; 32], idx: u64) -> [u8; 32]
+    ensures { result ≡ xmssmt_randomizer secret.now idx }
+{
+    let mut hasher = Sha256::new();
+    hasher.update(secret);
+    hasher.update(b"Q");
+    hasher.update(idx.to_be_bytes());
+    hasher.finalize()
 }

@@ -5,7 +5,7 @@ ghost use Rattle.jiff_core.specs.Calendar.{IsBetween};
 ghost use Rattle.algorithms.specs.Digests.{digest_of};
 ghost use Rattle.der_values.specs.Fits.{IsObject};
 ghost use Rattle.x509_certs.specs.Layouts as layout;
-ghost use Rattle.sample_world.specs.Tokens.{digest_algorithm, imprint, stamp_info, content, attribute, hash_algorithm, signing_certificate, attributes, signer_name, signer_info, signed_data, token};
+ghost use Rattle.sample_world.specs.Tokens.{digest_algorithm, imprint, accuracy_of, time_within, stamp_info, content, attribute, hash_algorithm, signing_certificate, attributes, signer_name, signer_info, signed_data, token};
 
 use crate::der_parts::{element, put_algorithm, put_integer};
 use crate::moments::put_generalized_time;
@@ -52,7 +52,37 @@ fn put_imprint(
     put_tlv(out, 0x30, fields.as_slice())
 }
 
-/// TSTInfo over a digest.
+// Appends an Accuracy of so many seconds, or nothing where there are none.
+#[tactic(auto, unfolding(crate::specs::Tokens::accuracy_of))]
+fn put_accuracy(alloc: Global, out: &mut Octs, seconds: u32) -> Result<(), OutOfMemory>
+    requires { seconds < 2 ^ 31 }
+    ensures { OnOk result (out.new ≡ out.old ++ accuracy_of seconds) }
+{
+    if seconds == 0 {
+        return Ok(());
+    }
+    let mut fields = Octs::new(alloc);
+    put_integer(&mut fields, seconds)?;
+    put_tlv(out, 0x30, fields.as_slice())
+}
+
+// Appends genTime and an accuracy.
+#[tactic(auto, unfolding(crate::specs::Tokens::time_within))]
+fn put_time_within(
+    alloc: Global,
+    out: &mut Octs,
+    gen_time: i64,
+    accuracy: u32,
+) -> Result<(), OutOfMemory>
+    requires gen_time { IsBetween (neg_ℤ (pos 62_167_219_200)) (pos 253_402_300_799) gen_time }
+    requires accuracy { accuracy < 2 ^ 31 }
+    ensures { OnOk result (out.new ≡ out.old ++ time_within gen_time accuracy) }
+{
+    put_generalized_time(out, gen_time)?;
+    put_accuracy(alloc, out, accuracy)
+}
+
+/// TSTInfo over a digest, with an accuracy in seconds; 0 leaves it out.
 #[tactic(auto, unfolding(crate::specs::Tokens::stamp_info))]
 pub fn stamp_info(
     alloc: Global,
@@ -60,16 +90,18 @@ pub fn stamp_info(
     covered: &[u8],
     serial: u32,
     gen_time: i64,
+    accuracy: u32,
 ) -> Result<Octs, OutOfMemory>
     requires serial { serial < 2 ^ 23 }
+    requires accuracy { accuracy < 2 ^ 31 }
     requires gen_time { IsBetween (neg_ℤ (pos 62_167_219_200)) (pos 253_402_300_799) gen_time }
-    ensures { IfOk result (λ o. o ≡ stamp_info kind covered.now serial gen_time) }
+    ensures { IfOk result (λ o. o ≡ stamp_info kind covered.now serial gen_time accuracy) }
 {
     let mut fields = element(alloc, 0x02, &[1])?;
     put_tlv(&mut fields, 0x06, &POLICY)?;
     put_imprint(alloc, &mut fields, kind, covered)?;
     put_integer(&mut fields, serial)?;
-    put_generalized_time(&mut fields, gen_time)?;
+    put_time_within(alloc, &mut fields, gen_time, accuracy)?;
     element(alloc, 0x30, fields.as_slice())
 }
 

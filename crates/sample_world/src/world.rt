@@ -1,18 +1,21 @@
 //! A world: its keys, how many signatures each has made, and its calls.
 
-ghost use Rattle.std.specs.Prelude.{◌≡◌, ◌≢◌, ◌↔◌, ◌⊎◌, ℕ, IsTrue, IfSome, ◌+◌, ◌<◌, ◌≤◌, ◌≤ℤ◌, pos, neg_ℤ, IfOk, IfErr, OnOk, OnErr, length, replicate, slice_index, slice_set, slice_get, Some, Err};
+ghost use Rattle.std.specs.Prelude.{◌≡◌, ◌≢◌, ◌↔◌, ◌⊎◌, ℕ, IsTrue, IfSome, ◌+◌, ◌<◌, ◌≤◌, ◌^◌, ◌≤ℤ◌, pos, neg_ℤ, IfOk, IfErr, OnOk, OnErr, length, replicate, slice_index, slice_set, slice_get, Some, Err};
 ghost use Rattle.lms_verify.specs.Hss.{verdict};
 ghost use Rattle.lms_verify.specs.Lms.{u32_at};
 ghost use Rattle.lms_verify.specs.declared.Verdict.TheVariants.{Good};
 ghost use Rattle.sample_world.specs.LmsSeed.{LmsSeed};
-ghost use Rattle.sample_world.specs.World.{Ledger, secret_of, id_of, seed_of, key_of, signature_of, two_signatures_of, xmss_key_of, xmss_signature_of, counted};
-ghost use Rattle.sample_world.specs.Objects.{signed_of, certificate_of, list_of, token_with, token_of, token_counted};
+ghost use Rattle.sample_world.specs.World.{Ledger, secret_of, id_of, seed_of, key_of, signature_of, two_signatures_of, xmss_key_of, xmss_signature_of, xmssmt_key_of, xmssmt_signature_of, counted};
+ghost use Rattle.sample_world.specs.Objects.{signed_of, certificate_of, list_of, token_with, token_within, token_of, token_counted};
 ghost use Rattle.algorithms.specs.Digests.{size_of};
 ghost use Rattle.der_values.specs.Fits.{IsObject};
 ghost use Rattle.x509_certs.specs.Layouts as layout;
 ghost use Rattle.jiff_core.specs.Calendar.{IsBetween};
 ghost use Rattle.xmss_verify.specs.Xmss as xmss;
+ghost use Rattle.xmss_definitions.specs.Keys as keys;
 ghost use Rattle.xmss_verify.specs.declared.Verdict.TheVariants as xmss_good;
+ghost use Rattle.xmssmt_verify.specs.XmssMt as xmssmt;
+ghost use Rattle.xmssmt_verify.specs.declared.Verdict.TheVariants as xmssmt_good;
 
 use crate::certificates::{Role, Terms, certificate_fields};
 use crate::der_parts::{element, signed_object};
@@ -21,6 +24,7 @@ use crate::lms_trees::{LmsTrees, Turn};
 use crate::secrets::secret_of;
 use crate::tokens::{attributes, signer_info, stamp_info, token};
 use crate::xmss_trees::XmssTrees;
+use crate::xmssmt_trees::{put_mt_key, put_mt_signature};
 use algorithms::{Digest, DigestKind};
 use std::alloc::{AllocError, Global};
 use std::marker::Model;
@@ -29,7 +33,8 @@ use xa_io::{Octs, OutOfMemory};
 /// Why a world gives no octets.
 #[derive(Clone, Copy, Debug, PartialEq, Eq)]
 pub enum WorldFault {
-    /// A key that is needed has made all its signatures: 32 by an LMS key, 1,024 by the XMSS key.
+    /// A key that is needed has made all its signatures: 32 by an LMS key, 1,024 by the XMSS
+    /// key and by the XMSS^MT key.
     Spent,
     /// Memory could not be had.
     OutOfMemory,
@@ -65,6 +70,7 @@ pub struct World {
     secret: [u8; 32],
     used: [u8; 256],
     xmss_used: u32,
+    xmssmt_used: u32,
     tokens: u32,
     lms_trees: LmsTrees,
     xmss_trees: XmssTrees,
@@ -75,7 +81,7 @@ impl Model for World {
 
     ghost Value = { Ledger };
 
-    ghost view = { λ w. record { secret = w.secret; used = w.used; xmss_used = w.xmss_used; tokens = w.tokens } };
+    ghost view = { λ w. record { secret = w.secret; used = w.used; xmss_used = w.xmss_used; xmssmt_used = w.xmssmt_used; tokens = w.tokens } };
 
     ghost use Rattle.sample_world.specs.Counts.{AreCounts};
 
@@ -85,13 +91,14 @@ impl Model for World {
 impl World {
     /// The world of a seed, whose keys have signed nothing.
     pub fn new(alloc: Global, seed: u64) -> World
-        ensures { result ≡ record { secret = secret_of seed; used = replicate 256 0; xmss_used = 0; tokens = 0 } }
+        ensures { result ≡ record { secret = secret_of seed; used = replicate 256 0; xmss_used = 0; xmssmt_used = 0; tokens = 0 } }
     {
         World {
             alloc,
             secret: secret_of(seed),
             used: [0; 256],
             xmss_used: 0,
+            xmssmt_used: 0,
             tokens: 0,
             lms_trees: LmsTrees::new(alloc),
             xmss_trees: XmssTrees::new(alloc),
@@ -225,7 +232,7 @@ impl World {
     pub fn xmss_sign(&mut self, message: &[u8]) -> Result<Octs, WorldFault>
         ensures value { IfOk result (λ s. s ≡ xmss_signature_of self.old message.now) }
         ensures good { IfOk result (λ s. xmss.verdict (xmss_key_of self.old) message.now s ≡ xmss_good.Good) }
-        ensures number { IfOk result (λ s. xmss.u32_at s 0 ≡ self.old.xmss_used) }
+        ensures number { IfOk result (λ s. keys.u32_at s 0 ≡ self.old.xmss_used) }
         ensures counted { OnOk result (self.new ≡ record self.old { xmss_used = self.old.xmss_used + 1 }) }
 
         ensures spent { (result ≡ Err WorldFault.Spent) ↔ (1024 ≤ self.old.xmss_used) }
@@ -239,6 +246,37 @@ impl World {
         let trees = &mut self.xmss_trees;
         trees.put_signature(self.alloc, &self.secret, idx, message, &mut out)?;
         self.xmss_used = idx + 1;
+        Ok(out)
+    }
+
+    /// The XMSS^MT key, of set 2.
+    pub fn xmssmt_key(&mut self) -> Result<Octs, WorldFault>
+        ensures value { IfOk result (λ k. k ≡ xmssmt_key_of self.old) }
+        ensures only_memory { IfErr result (λ fault. fault ≡ WorldFault.OutOfMemory) }
+        ensures same { self.new ≡ self.old }
+    {
+        let mut out = Octs::new(self.alloc);
+        put_mt_key(self.alloc, &self.secret, &mut out)?;
+        Ok(out)
+    }
+
+    /// The next signature that the XMSS^MT key makes. Its idx is the number of the earlier ones.
+    pub fn xmssmt_sign(&mut self, message: &[u8]) -> Result<Octs, WorldFault>
+        ensures value { IfOk result (λ s. s ≡ xmssmt_signature_of self.old message.now) }
+        ensures good { IfOk result (λ s. xmssmt.verdict (xmssmt_key_of self.old) message.now s ≡ xmssmt_good.Good) }
+        ensures number { IfOk result (λ s. xmssmt.index_of 20 s ≡ self.old.xmssmt_used) }
+        ensures counted { OnOk result (self.new ≡ record self.old { xmssmt_used = self.old.xmssmt_used + 1 }) }
+
+        ensures spent { (result ≡ Err WorldFault.Spent) ↔ (1024 ≤ self.old.xmssmt_used) }
+        ensures err { OnErr result (self.new ≡ self.old) }
+    {
+        let idx = self.xmssmt_used;
+        if idx >= 1024 {
+            return Err(WorldFault::Spent);
+        }
+        let mut out = Octs::new(self.alloc);
+        put_mt_signature(self.alloc, &self.secret, idx, message, &mut out)?;
+        self.xmssmt_used = idx + 1;
         Ok(out)
     }
 
@@ -368,11 +406,36 @@ impl World {
         ensures spent { (result ≡ Err WorldFault.Spent) ↔ (32 ≤ slice_index self.old.used signer) }
         ensures err { OnErr result (self.new ≡ self.old) }
     {
+        self.token_within(signer, certificate, covered, kind, gen_time, 0)
+    }
+
+    /// The token of `token` with an accuracy of so many seconds, below 2^31; 0 leaves the field out.
+    pub fn token_within(
+        &mut self,
+        signer: u32,
+        certificate: &[u8],
+        covered: &Digest,
+        kind: DigestKind,
+        gen_time: i64,
+        accuracy: u32,
+    ) -> Result<Octs, WorldFault>
+        requires signer { signer < 256 }
+        requires whole { IsObject layout.certificate certificate.now }
+        requires covered { length covered.now ≡ size_of kind }
+        requires gen_time { IsBetween (neg_ℤ (pos 631_152_000)) (pos 253_402_300_799) gen_time }
+        requires accuracy { accuracy < 2 ^ 31 }
+        ensures value { IfOk result (λ t. t ≡ token_within self.old signer certificate.now covered.now kind gen_time accuracy) }
+        ensures counted { OnOk result (self.new ≡ token_counted self.old signer) }
+
+        ensures spent { (result ≡ Err WorldFault.Spent) ↔ (32 ≤ slice_index self.old.used signer) }
+        ensures err { OnErr result (self.new ≡ self.old) }
+    {
         if self.is_spent(signer) {
             return Err(WorldFault::Spent);
         }
         let serial = self.tokens + 1;
-        let info = stamp_info(self.alloc, kind, covered.as_slice(), serial, gen_time)?;
+        let covered = covered.as_slice();
+        let info = stamp_info(self.alloc, kind, covered, serial, gen_time, accuracy)?;
         let token = self.next_token(signer, certificate, kind, info.as_slice())?;
         self.count(signer);
         self.tokens = serial;

@@ -1,6 +1,7 @@
 //! The XMSS key of set 1 that a world's secret makes (RFC 8391, sections 3.1 and 4.1).
 
 ghost use Rattle.std.specs.Prelude.{◌≡◌, ℕ, ◌+◌, ◌*◌, ◌^◌, ◌<◌, ◌≤◌, ◌++◌, ◌↔◌, IsTrue, IfOk, OnOk, length, slice_get, Some, []};
+ghost use Rattle.xmss_definitions.specs.Address.{only_tree};
 ghost use Rattle.sample_world.specs.Joined.{listed};
 ghost use Rattle.sample_world.specs.World.{xmss_secret, xmss_seed, xmss_randomizer};
 ghost use Rattle.sample_world.specs.XmssKeys.{chain_end, leaf, node, key, ots_values, path, signature};
@@ -37,6 +38,7 @@ struct XmssTree {
 
 impl Model for XmssTree {
     ghost use Rattle.std.specs.Prelude.{◌≡◌, ℕ, List};
+    ghost use Rattle.xmss_definitions.specs.Address.{only_tree};
     ghost use Rattle.sample_world.specs.Joined.{listed};
     ghost use Rattle.sample_world.specs.World.{xmss_secret, xmss_seed};
     ghost use Rattle.sample_world.specs.XmssKeys.{leaf};
@@ -45,8 +47,8 @@ impl Model for XmssTree {
 
     ghost view = { λ t. t.secret };
 
-    ghost invariant = { λ t. (t.prf ≡ xmss_seed t.secret)
-        × (t.leaves.items ≡ listed (leaf (xmss_seed t.secret) (xmss_secret t.secret)) 1024) };
+    ghost invariant = { λ t. (t.prf ≡ only_tree (xmss_seed t.secret))
+        × (t.leaves.items ≡ listed (leaf (only_tree (xmss_seed t.secret)) (xmss_secret t.secret)) 1024) };
 }
 
 impl XmssTree {
@@ -77,7 +79,7 @@ impl XmssTree {
     #[tactic(auto, using(crate::proofs::XmssTrees::node_inner))]
     fn node(&self, i: u32, n: u32) -> [u8; 32]
         requires { (i + 1) * 2 ^ n ≤ 1024 }
-        ensures { result ≡ node (xmss_seed self.now) (xmss_secret self.now) i n }
+        ensures { result ≡ node (only_tree (xmss_seed self.now)) (xmss_secret self.now) i n }
     {
         if n == 0 {
             self.leaves[i as usize]
@@ -107,7 +109,7 @@ impl XmssTree {
     #[tactic(auto, unfolding(crate::specs::XmssKeys::ots_values))]
     fn put_values(&self, out: &mut Octs, idx: u32, digest: &[u8; 32]) -> Result<(), OutOfMemory>
         ensures { OnOk result (out.new
-            ≡ out.old ++ ots_values (xmss_seed self.now) (xmss_secret self.now) idx digest.now) }
+            ≡ out.old ++ ots_values (only_tree (xmss_seed self.now)) (xmss_secret self.now) idx digest.now) }
     {
         let digits = digits(digest);
         'chains: for i in 0..67 {
@@ -124,7 +126,7 @@ impl XmssTree {
     fn put_path(&self, out: &mut Octs, idx: u32) -> Result<(), OutOfMemory>
         requires { idx < 1024 }
         ensures { OnOk result
-            (out.new ≡ out.old ++ path (xmss_seed self.now) (xmss_secret self.now) idx) }
+            (out.new ≡ out.old ++ path 10 (only_tree (xmss_seed self.now)) (xmss_secret self.now) idx) }
     {
         let mut i = idx;
         'heights: for n in 0..10u32 {

@@ -1,0 +1,5 @@
+pub mod DigestKinds
+pub mod Apart
+pub mod Chosen
+pub mod Attributes
+pub mod Parts

@@ -3,3 +3,5 @@ pub mod View
 pub mod Tokens
 pub mod Digests
 pub mod Sound
+pub mod Whole
+pub mod Laws

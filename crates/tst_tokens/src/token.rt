@@ -1,20 +1,23 @@
 //! Tokens: RFC 3161, 2.4.2, in SignedData of RFC 5652.
 
-ghost use Rattle.std.specs.Prelude.{◌≡◌, ◌<◌, ◌↔◌, length, find, filter, slice_get, IsOk, IfOk, IfErr, MatchResult, Ok, Err};
+ghost use Rattle.std.specs.Prelude.{◌≡◌, ◌<◌, ◌↔◌, length, find, filter, map, slice_get, IsOk, IfOk, IfErr, MatchResult, Ok, Err};
 ghost use Rattle.std.specs.Option.{option_map};
 ghost use Rattle.der_values.specs.Elements as said;
 ghost use Rattle.der_values.specs.Elements.{elements};
 ghost use Rattle.der_values.specs.Rules.{content_of, bytes_of};
 ghost use Rattle.der_values.specs.Fits.{IsObject};
 ghost use Rattle.der_values.specs.Layout.{read_object};
+ghost use Rattle.der_values.specs.Times.{IsInYears};
 ghost use Rattle.tst_tokens.specs.Layouts as layout;
 ghost use Rattle.tst_tokens.specs.Digests as names;
 ghost use Rattle.tst_tokens.specs.Sound as sound;
 ghost use Rattle.tst_tokens.specs.Tokens as says;
-ghost use Rattle.tst_tokens.specs.View.{token_bytes};
+ghost use Rattle.tst_tokens.specs.View.{token_bytes, certificates_left};
+ghost use Rattle.tst_tokens.specs.Whole.{HasTime};
 ghost use Rattle.x509_certs.specs.Signed as signed;
 ghost use Rattle.x509_certs.specs.View.{certificate_bytes};
 
+use crate::certificates::{Certificates, certificates_in};
 use crate::digests::kind_named;
 use crate::layouts::TOKEN;
 use crate::numbers::seconds_of_accuracy;
@@ -37,6 +40,7 @@ pub struct Token<'a> {
 pub fn read_token<'a>(bytes: &'a [u8]) -> Result<Token<'a>, CertFault>
     ensures exact { IsOk result ↔ IsObject layout.token bytes.now }
     ensures ok { IfOk result (λ t. token_bytes t ≡ bytes.now) }
+    ensures time { IfOk result (λ t. HasTime (token_bytes t)) }
     ensures judged { MatchResult result
         (λ t. read_object layout.token bytes.now ≡ Ok (length bytes.now))
         (λ fault. read_object layout.token bytes.now ≡ Err fault.at) }
@@ -46,6 +50,15 @@ pub fn read_token<'a>(bytes: &'a [u8]) -> Result<Token<'a>, CertFault>
         Ok(()) => Ok(Token { whole: bytes }),
         Err(fault) => Err(CertFault { at: fault.at }),
     }
+}
+
+/// The token that bytes are which were read as one before. They aren't judged again.
+pub fn whole_token<'a>(bytes: &'a [u8]) -> Token<'a>
+    requires { IsObject layout.token bytes.now }
+    ensures value { token_bytes result ≡ bytes.now }
+    ensures time { HasTime (token_bytes result) }
+{
+    Token { whole: bytes }
 }
 
 // The certificate of a number among these elements, from 0.
@@ -142,9 +155,10 @@ impl<'a> Token<'a> {
         part(0, part(0, part(0, value)))
     }
 
-    /// genTime in seconds since 1970; a fraction is rounded up (RFC 3161, 2.4.2).
+    /// genTime in seconds since 1970, in the years 0000 to 9999; a fraction is rounded up (RFC 3161, 2.4.2).
     pub fn gen_time(&self) -> i64
-        ensures { result ≡ says.gen_time (token_bytes self.now) }
+        ensures value { result ≡ says.gen_time (token_bytes self.now) }
+        ensures range { IsInYears result }
     {
         time_at(4, self.stamp_info())
     }
@@ -173,14 +187,22 @@ impl<'a> Token<'a> {
         ensures { option_map certificate_bytes result ≡ option_map (λ e. e.whole) (says.signer_of (token_bytes self.now)) }
     {
         let named = part(1, self.signer_info());
-        of_issuer(piece(0, named), part(1, named), self.certificates())
+        of_issuer(piece(0, named), part(1, named), self.certificates_field())
     }
 
-    /// The certificate of a number in the token, from 0; `None` where there are no more.
+    /// The certificates of the token, in their order. Elements among them that are none are passed over.
+    pub fn certificates(&self) -> Certificates<'a>
+        ensures { certificates_left result ≡ map (λ e. e.whole) (says.certificates_of (token_bytes self.now)) }
+    {
+        certificates_in(self.certificates_field())
+    }
+
+    /// The certificate of a number in the token, from 0; `None` where there are no more. All before it are judged at each call: to list
+    /// them take `certificates`.
     pub fn certificate(&self, number: usize) -> Option<Certificate<'a>>
         ensures { option_map certificate_bytes result ≡ option_map (λ e. e.whole) (slice_get (says.certificates_of (token_bytes self.now)) number) }
     {
-        nth_certificate(number, self.certificates())
+        nth_certificate(number, self.certificates_field())
     }
 
     fn signed_data(&self) -> &'a [u8]
@@ -189,7 +211,7 @@ impl<'a> Token<'a> {
         part(0, part(1, part(0, self.whole)))
     }
 
-    fn certificates(&self) -> &'a [u8]
+    fn certificates_field(&self) -> &'a [u8]
         ensures { result.now ≡ says.certificates_field (token_bytes self.now) }
     {
         tagged(0xA0, self.signed_data())

@@ -40,7 +40,7 @@ time_stands before these after f =
     ] f
 
 -- a time that is there isn't replaced
-is_there : (o : Option ℤ) → IsSome o → Some (or_0 o) ≡ o
+pub is_there : (o : Option ℤ) → IsSome o → Some (or_0 o) ≡ o
 is_there None some = absurd cc
 is_there (Some z) some = refl
 

@@ -1,6 +1,6 @@
 -- What a certificate says, by the places of its parts: RFC 5280, 4.1 and 4.2.
 -- tbsCertificate has at 0 the version, 1 the serial, 2 the algorithm, 3 the issuer, 4 the validity, 5 the subject, 6 the key.
-use Rattle.std.specs.Prelude.{◌≡◌, ℕ, ℤ, Bool, true, false, List, [], ◌∷◌, Option, Some, None, is_none, ◌==◌, bit_and, if◌then◌else◌}
+use Rattle.std.specs.Prelude.{◌≡◌, ℕ, ℤ, ◌+◌, ◌-◌, ◌*◌, ◌^◌, Bool, true, false, not, ◌&&◌, List, [], ◌∷◌, length, Option, Some, None, is_none, nat_lt, ◌==◌, bit_and, if◌then◌else◌}
 use Rattle.std.specs.List.{list_any}
 use Rattle.std.specs.Str.{bytes_eq}
 use Rattle.der_values.specs.Element.{Element}
@@ -55,24 +55,25 @@ count_in (Some e) = count_of e.content
 abbrev pub path_len : List ℕ → Option ℕ
 path_len whole = count_in (tagged 0x02 (value_of oids.BasicConstraints (extensions whole)))
 
--- Bits of the first byte behind the number of unused bits: bit 0 is the highest (X.690, 8.6.2).
-abbrev pub has_bits : ℕ → List ℕ → Bool
-has_bits mask [] = false
-has_bits mask (unused ∷ []) = false
-has_bits mask (unused ∷ first ∷ bytes) = bit_and first mask == mask
+-- Bit k of a BIT STRING, one of the first eight: it lies in the string, behind whose bytes `unused` bits don't, and is 1.
+-- Bit 0 is the highest of the first byte (X.690, 8.6.2).
+abbrev pub has_bit : ℕ → List ℕ → Bool
+has_bit k [] = false
+has_bit k (unused ∷ []) = false
+has_bit k (unused ∷ first ∷ bytes) = nat_lt (k + unused) (8 * length (first ∷ bytes)) && not (bit_and first (2 ^ (7 - k)) == 0)
 
--- keyUsage has these bits (4.2.1.3); without the extension each bit counts as set.
+-- keyUsage has this bit (4.2.1.3); without the extension each bit counts as set.
 abbrev pub may : ℕ → List ℕ → Bool
-may mask whole =
+may k whole =
     if is_none (first_named (bytes_of oids.KeyUsage) (extensions whole)) then true
-    else has_bits mask (value_of oids.KeyUsage (extensions whole))
+    else has_bit k (value_of oids.KeyUsage (extensions whole))
 
 -- keyCertSign is bit 5, cRLSign is bit 6.
 abbrev pub signs_certs : List ℕ → Bool
-signs_certs whole = may 0x04 whole
+signs_certs whole = may 5 whole
 
 abbrev pub signs_crls : List ℕ → Bool
-signs_crls whole = may 0x02 whole
+signs_crls whole = may 6 whole
 
 -- extKeyUsage holds id-kp-timeStamping (4.2.1.12).
 abbrev pub stamps_time : List ℕ → Bool

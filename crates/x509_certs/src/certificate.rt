@@ -3,6 +3,7 @@
 ghost use Rattle.std.specs.Prelude.{◌≡◌, ◌<◌, ◌↔◌, length, IsOk, IfOk, IfErr, MatchResult, Ok, Err};
 ghost use Rattle.der_values.specs.Fits.{IsObject};
 ghost use Rattle.der_values.specs.Layout.{read_object};
+ghost use Rattle.der_values.specs.Times.{IsInYears};
 ghost use Rattle.x509_certs.specs.Certificates as says;
 ghost use Rattle.x509_certs.specs.Layouts as layout;
 ghost use Rattle.x509_certs.specs.Signed as signed;
@@ -13,6 +14,11 @@ use crate::fault::CertFault;
 use crate::fields::{algorithm_name, bit_bytes, fields, tagged, time_at};
 use crate::layouts::CERTIFICATE;
 use der_values::{KnownOid, check, count, has_octets, named, part, piece, with_tag};
+
+// Bits of keyUsage (RFC 5280, 4.2.1.3).
+const KEY_CERT_SIGN: u8 = 5;
+
+const CRL_SIGN: u8 = 6;
 
 /// A certificate of version 3, borrowed. Its parts are found anew at each call.
 #[derive(Clone, Copy, Debug)]
@@ -38,11 +44,25 @@ pub fn read_certificate<'a>(bytes: &'a [u8]) -> Result<Certificate<'a>, CertFaul
     }
 }
 
-fn has_bits(mask: u8, bits: &[u8]) -> bool
-    ensures { result ≡ says.has_bits mask bits.now }
+/// The certificate that bytes are which were read as one before, or lie in an object that was. They aren't judged again.
+pub fn whole_certificate<'a>(bytes: &'a [u8]) -> Certificate<'a>
+    requires { IsObject layout.certificate bytes.now }
+    ensures value { certificate_bytes result ≡ bytes.now }
+    ensures times { says.HasTimes (certificate_bytes result) }
 {
-    match bits {
-        [_, first, ..] => *first & mask == mask,
+    Certificate { whole: bytes }
+}
+
+// Whether a bit of the first byte lies in the string and is set (X.690, 8.6.2).
+fn has_bit(bit: u8, content: &[u8]) -> bool
+    requires { bit < 8 }
+    ensures { result ≡ says.has_bit bit content.now }
+{
+    match content {
+        [unused, first, rest @ ..] => {
+            let lies_in_string = (bit as usize + *unused as usize) / 8 <= rest.len();
+            lies_in_string && *first & (1 << (7 - bit)) != 0
+        }
         _ => false,
     }
 }
@@ -83,16 +103,18 @@ impl<'a> Certificate<'a> {
         piece(5, fields(self.whole))
     }
 
-    /// The first second of validity, since 1970 (RFC 5280, 4.1.2.5).
+    /// The first second of validity, since 1970, in the years 0000 to 9999 (RFC 5280, 4.1.2.5).
     pub fn not_before(&self) -> i64
-        ensures { result ≡ says.not_before (certificate_bytes self.now) }
+        ensures value { result ≡ says.not_before (certificate_bytes self.now) }
+        ensures range { IsInYears result }
     {
         time_at(0, part(4, fields(self.whole)))
     }
 
-    /// The last second of validity, since 1970 (RFC 5280, 4.1.2.5).
+    /// The last second of validity, since 1970, in the years 0000 to 9999 (RFC 5280, 4.1.2.5).
     pub fn not_after(&self) -> i64
-        ensures { result ≡ says.not_after (certificate_bytes self.now) }
+        ensures value { result ≡ says.not_after (certificate_bytes self.now) }
+        ensures range { IsInYears result }
     {
         time_at(1, part(4, fields(self.whole)))
     }
@@ -143,18 +165,18 @@ impl<'a> Certificate<'a> {
         }
     }
 
-    /// Whether the key may sign certificates: keyCertSign, set too where there is no keyUsage (RFC 5280, 4.2.1.3).
+    /// Whether the key may sign certificates: keyCertSign, which counts as set where there is no keyUsage (RFC 5280, 4.2.1.3).
     pub fn signs_certs(&self) -> bool
         ensures { result ≡ says.signs_certs (certificate_bytes self.now) }
     {
-        self.may(0x04)
+        self.may(KEY_CERT_SIGN)
     }
 
     /// Whether the key may sign CRLs: cRLSign, set too where there is no keyUsage (RFC 5280, 4.2.1.3).
     pub fn signs_crls(&self) -> bool
         ensures { result ≡ says.signs_crls (certificate_bytes self.now) }
     {
-        self.may(0x02)
+        self.may(CRL_SIGN)
     }
 
     /// Whether extKeyUsage holds id-kp-timeStamping (RFC 5280, 4.2.1.12).
@@ -180,12 +202,13 @@ impl<'a> Certificate<'a> {
         part(0, tagged(0xA3, fields(self.whole)))
     }
 
-    fn may(&self, mask: u8) -> bool
-        ensures { result ≡ says.may mask (certificate_bytes self.now) }
+    fn may(&self, bit: u8) -> bool
+        requires { bit < 8 }
+        ensures { result ≡ says.may bit (certificate_bytes self.now) }
     {
         match named(KnownOid::KeyUsage.content(), self.extensions()) {
             None => true,
-            Some(_) => has_bits(mask, value_of(KnownOid::KeyUsage, self.extensions())),
+            Some(_) => has_bit(bit, value_of(KnownOid::KeyUsage, self.extensions())),
         }
     }
 }

@@ -1,10 +1,11 @@
 //! Revocation lists: RFC 5280, 5.1 to 5.3.
 
-ghost use Rattle.std.specs.Prelude.{◌≡◌, ◌<◌, ◌↔◌, length, IsOk, IfOk, IfErr, MatchResult, Ok, Err, Some};
+ghost use Rattle.std.specs.Prelude.{◌≡◌, ◌<◌, ◌↔◌, length, IsOk, IfOk, IfErr, IfSome, MatchResult, Ok, Err, Some};
 ghost use Rattle.std.specs.List.{list_any};
 ghost use Rattle.der_values.specs.Elements as said;
 ghost use Rattle.der_values.specs.Fits.{IsObject};
 ghost use Rattle.der_values.specs.Layout.{read_object};
+ghost use Rattle.der_values.specs.Times.{IsInYears};
 ghost use Rattle.der_values.specs.View.{view};
 ghost use Rattle.x509_certs.specs.Layouts as layout;
 ghost use Rattle.x509_certs.specs.Lists as says;
@@ -41,6 +42,15 @@ pub fn read_crl<'a>(bytes: &'a [u8]) -> Result<Crl<'a>, CertFault>
     }
 }
 
+/// The CRL that bytes are which were read as one before. They aren't judged again.
+pub fn whole_crl<'a>(bytes: &'a [u8]) -> Crl<'a>
+    requires { IsObject layout.revocation_list bytes.now }
+    ensures value { list_bytes result ≡ bytes.now }
+    ensures times { says.HasUpdate (list_bytes result) }
+{
+    Crl { whole: bytes }
+}
+
 fn is_critical_entry(entry: &Tlv<'_>) -> bool
     ensures { result ≡ says.is_critical_entry (view entry.now) }
 {
@@ -54,7 +64,10 @@ fn any_critical_entry(entries: &[u8]) -> bool
 }
 
 fn earlier(best: Option<i64>, date: i64) -> Option<i64>
-    ensures { result ≡ says.earlier best (Some date) }
+    requires best { IfSome best IsInYears }
+    requires date { IsInYears date }
+    ensures value { result ≡ says.earlier best (Some date) }
+    ensures range { IfSome result IsInYears }
 {
     match best {
         None => Some(date),
@@ -70,7 +83,9 @@ fn earlier(best: Option<i64>, date: i64) -> Option<i64>
 
 // The best date so far, with one more entry.
 fn with_entry(serial: &[u8], best: Option<i64>, entry: &Tlv<'_>) -> Option<i64>
-    ensures { result ≡ says.earlier best (says.earliest (says.dates_in serial.now (view entry.now))) }
+    requires { IfSome best IsInYears }
+    ensures range { IfSome result IsInYears }
+    ensures value { result ≡ says.earlier best (says.earliest (says.dates_in serial.now (view entry.now))) }
 {
     if part(0, entry.content) == serial {
         earlier(best, time_at(1, entry.content))
@@ -80,7 +95,8 @@ fn with_entry(serial: &[u8], best: Option<i64>, entry: &Tlv<'_>) -> Option<i64>
 }
 
 fn earliest(serial: &[u8], entries: &[u8]) -> Option<i64>
-    ensures { result ≡ says.earliest (says.dates_of serial.now (said.elements entries.now)) }
+    ensures range { IfSome result IsInYears }
+    ensures value { result ≡ says.earliest (says.dates_of serial.now (said.elements entries.now)) }
 {
     let mut best = None;
     for entry in elements_of(entries) {
@@ -111,16 +127,18 @@ impl<'a> Crl<'a> {
         piece(2, fields(self.whole))
     }
 
-    /// thisUpdate in seconds since 1970 (RFC 5280, 5.1.2.4).
+    /// thisUpdate in seconds since 1970, in the years 0000 to 9999 (RFC 5280, 5.1.2.4).
     pub fn this_update(&self) -> i64
-        ensures { result ≡ says.this_update (list_bytes self.now) }
+        ensures value { result ≡ says.this_update (list_bytes self.now) }
+        ensures range { IsInYears result }
     {
         time_at(3, fields(self.whole))
     }
 
-    /// nextUpdate in seconds since 1970, if it is given (RFC 5280, 5.1.2.5).
+    /// nextUpdate in seconds since 1970, in the years 0000 to 9999, if it is given (RFC 5280, 5.1.2.5).
     pub fn next_update(&self) -> Option<i64>
-        ensures { result ≡ says.next_update (list_bytes self.now) }
+        ensures value { result ≡ says.next_update (list_bytes self.now) }
+        ensures range { IfSome result IsInYears }
     {
         time(4, fields(self.whole))
     }
@@ -147,11 +165,12 @@ impl<'a> Crl<'a> {
             && !any_critical_entry(self.entries())
     }
 
-    /// The earliest date at which an entry lists the serial, in seconds since 1970 (RFC 5280, 5.1.2.6).
+    /// The earliest date at which an entry lists the serial, in seconds since 1970, in the years 0000 to 9999 (RFC 5280, 5.1.2.6).
     ///
     /// `serial` is the content of an INTEGER. An entry of any reason counts.
     pub fn revoked(&self, serial: &[u8]) -> Option<i64>
-        ensures { result ≡ says.revoked serial.now (list_bytes self.now) }
+        ensures value { result ≡ says.revoked serial.now (list_bytes self.now) }
+        ensures range { IfSome result IsInYears }
     {
         earliest(serial, self.entries())
     }

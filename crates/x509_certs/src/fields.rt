@@ -1,8 +1,9 @@
 //! Parts of certificates and CRLs by their places.
 
-ghost use Rattle.std.specs.Prelude.{◌≡◌};
+ghost use Rattle.std.specs.Prelude.{◌≡◌, IfSome};
 ghost use Rattle.der_values.specs.Elements as said;
 ghost use Rattle.der_values.specs.Rules.{nth, content_of};
+ghost use Rattle.der_values.specs.Times.{IsInYears};
 ghost use Rattle.x509_certs.specs.Lists.{is_tag};
 ghost use Rattle.x509_certs.specs.Signed as signed;
 
@@ -10,7 +11,8 @@ use der_values::{element, part, seconds, with_tag};
 
 /// The seconds since 1970 of the element of a number, if it is a time.
 pub fn time(number: usize, content: &[u8]) -> Option<i64>
-    ensures { result ≡ signed.time_of (nth number content.now) }
+    ensures value { result ≡ signed.time_of (nth number content.now) }
+    ensures range { IfSome result IsInYears }
 {
     match element(number, content) {
         None => None,
@@ -20,7 +22,8 @@ pub fn time(number: usize, content: &[u8]) -> Option<i64>
 
 /// The same of a time that has to stand; 0 where none does.
 pub fn time_at(number: usize, content: &[u8]) -> i64
-    ensures { result ≡ signed.time_or_0 (nth number content.now) }
+    ensures value { result ≡ signed.time_or_0 (nth number content.now) }
+    ensures range { IsInYears result }
 {
     match time(number, content) {
         None => 0,

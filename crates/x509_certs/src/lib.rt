@@ -9,13 +9,10 @@ mod fields;
 mod layouts;
 mod part;
 
-pub use certificate::{Certificate, read_certificate};
-pub use crl::{Crl, read_crl};
+pub use certificate::{Certificate, read_certificate, whole_certificate};
+pub use crl::{Crl, read_crl, whole_crl};
 pub use extensions::first_named;
 pub use fault::CertFault;
 pub use fields::{algorithm_name, has_tag, tagged, time_at};
 pub use layouts::{ALGORITHM, CERTIFICATE};
 pub use part::{Part, split_data};
-
-#[cfg(test)]
-mod tests;

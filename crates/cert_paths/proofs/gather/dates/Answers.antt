@@ -1,9 +1,6 @@
-use Rattle.std.proofs.Common.{List, ℕ, map, ap, ◌∙◌, refl}
+use Rattle.std.proofs.Common.{refl}
 use Rattle.std.proofs.lemmas.Option.{slice_get_read}
-use Rattle.x509_certs.specs.Lists as lists
-use Rattle.x509_certs.specs.View.{list_bytes}
 use Rattle.cert_paths.specs.declared.rows.CertRow.{CertRow}
-use Rattle.cert_paths.specs.declared.rows.ListRow.{ListRow}
 use Rattle.cert_paths.specs.Rows.{dates_of}
 use Rattle.cert_paths.proofs.TableLaws.{map_taken}
 use Rattle.cert_paths.proofs.gather.dates.Goals as goal
@@ -12,4 +9,4 @@ pub loop-cert-preserved : goal.loop-cert-preserved
 loop-cert-preserved c =
     map_taken (λ d. d.items) (λ (r : CertRow). dates_of r c.args.rows.now) c.loop-cert.all.items c.push.new.self.items c.args.certs.now c.loop-cert.cert-index c.in_ok-row.row
     c.cert-item.result c.in_ok-push.ensures.items (slice_get_read c.args.certs.now _ c.loop-cert.cert-index c.cert-item.result refl c.loop-cert-test.true c.cert-item.is)
-    (c.in_ok-row.ensures ∙ ap (λ (s : List ℕ). map (λ (l : ListRow). lists.revoked s (list_bytes l.list)) c.args.rows.now) c.serial.ensures) c.loop-cert.invariant
+    c.in_ok-row.ensures c.loop-cert.invariant

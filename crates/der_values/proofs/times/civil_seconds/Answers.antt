@@ -1,9 +1,15 @@
-use Rattle.std.proofs.Common.{◌≡◌, ◌∙◌, ap, refl, ℕ, ℤ, pos, negsuc, ◌<◌, ◌^◌, w16, w8, w64, arith, to_z, FitsSigned}
+use Rattle.std.proofs.Common.{◌≡◌, subst, sym, ◌∙◌, ap, refl, ℕ, ℤ, pos, negsuc, ◌<◌, ◌^◌, w16, w8, w64, arith, to_z, of_z, FitsSigned, ◌≤◌, ◌≤ℤ◌, neg_ℤ}
 use Rattle.std.proofs.lemmas.Int.{to_z-of_z, to_z_pos}
 use Rattle.jiff.proofs.SpanFacts.{signed_arith}
+use Rattle.std.proofs.lemmas.Int.{by_lt_z}
+use Rattle.jiff_core.specs.Calendar.{day_count, IsCivilDate}
+use Rattle.jiff_core.specs.Date.{epoch_day}
 use Rattle.jiff_core.specs.DateTime.{civil_seconds}
+use Rattle.jiff_core.specs.declared.civil.date.Date.{Date}
+use Rattle.jiff_core.proofs.MarchLemmas.{day_count-early}
+use Rattle.jiff_core.proofs.CalendarLemmas.{day_count-lt_year, day_count-day_of_year, days_from_civil-day_count}
 use Rattle.jiff_core.specs.declared.civil.datetime.DateTime.{DateTime}
-use Rattle.der_values.specs.Times.{Moment, seconds_to}
+use Rattle.der_values.specs.Times.{Moment, seconds_to, first_second}
 use Rattle.der_values.specs.View.{seen}
 use Rattle.der_values.proofs.times.civil_seconds.Goals as goal
 
@@ -24,6 +30,26 @@ by_parts : (dt : DateTime) (m : Moment) → dt.date.year ≡ pos m.year → dt.d
 unfolding civil_seconds
 by_parts dt m ey em ed eh en es = rw (ey, em, ed, eh, en, es) refl
 
+day_count-zero : day_count (pos 0) 1 1 ≡ 3_652_425
+day_count-zero = day_count-early (pos 0) 9999 1 1 refl (omega arith) (omega arith) (omega arith)
+
+first_day : IsCivilDate (pos 0) 1 1
+first_day = ((omega (arith, signed_arith), omega (arith, signed_arith)), (omega arith, omega arith), (omega arith, omega arith))
+
+-- a date of the year 0 or a later one
+from_zero : (d : Date) (y : ℕ) → d.year ≡ pos y → 3_652_425 ≤ day_count d.year d.month d.day
+from_zero d y is = by_lt_z (pos 0) d.year
+    (λ later. omega (arith, day_count-zero, day_count-lt_year (pos 0) 1 1 d.year d.month d.day first_day d.day_in.0 later))
+    (λ le.
+    let zero : d.year ≡ pos 0 = omega (arith, signed_arith) in
+    let P : ℤ → Type 0 = λ z. 3_652_425 ≤ day_count z d.month d.day in
+    subst P (sym zero) (omega (arith, day_count-zero, day_count-day_of_year (pos 0) d.month d.day d.day_in.0)))
+
+from_first : (dt : DateTime) (y : ℕ) → dt.date.year ≡ pos y → first_second ≤ℤ civil_seconds dt
+unfolding civil_seconds
+from_first dt y is =
+    omega (arith, signed_arith, from_zero dt.date y is, days_from_civil-day_count dt.date.year dt.date.month dt.date.day)
+
 pub returns-in-Ok-clause-value : goal.returns-in-Ok-clause-value
 returns-in-Ok-clause-value c =
     let v = c.in-Ok.ensures.value in
@@ -38,3 +64,12 @@ returns-in-Ok-clause-value c =
     let fits : FitsSigned w64 c.to_second.result = omega (arith, signed_arith, c.to_second.ensures.bound) in
     to_z-of_z w64 c.to_second.result fits ∙ c.to_second.ensures.value
     ∙ ap civil_seconds c.to_plain.ensures ∙ by_parts c.in-Ok.moment (seen c.args.m.now) ey em ed eh en es
+
+pub returns-in-Ok-clause-range : goal.returns-in-Ok-clause-range
+returns-in-Ok-clause-range c =
+    let year : c.in-Ok.moment.date.year ≡ pos c.args.m.now.year = c.in-Ok.ensures.value.0.0 ∙ to_z_pos w16 c.args.m.now.year (omega (arith, c.requires.year)) in
+    let first = from_first c.in-Ok.moment c.args.m.now.year year in
+    let fits : FitsSigned w64 c.to_second.result = omega (arith, signed_arith, c.to_second.ensures.bound) in
+    let same : to_z w64 (of_z w64 c.to_second.result) ≡ civil_seconds c.in-Ok.moment = to_z-of_z w64 c.to_second.result fits ∙ c.to_second.ensures.value ∙ ap civil_seconds c.to_plain.ensures in
+    let same_result : c.to_second.result ≡ civil_seconds c.in-Ok.moment = c.to_second.ensures.value ∙ ap civil_seconds c.to_plain.ensures in
+    omega (arith, signed_arith, c.to_second.ensures.bound)

@@ -32,7 +32,7 @@ returns c =
     let R : ℤ → Type 0 = λ z. AreKindsAccepted (rules c.args.policy.now) (token_of (token_bytes c.in-Ok.token)) z in
     let kinds = subst P (sym c.requires.policy) (subst Q c.in-Ok.ensures.ok (subst R (to_z-of_z c.ranges.at) asked)) in
     accepted_by c.args.links.now.pool c.args.links.now.policy c.args.times.now (token_of c.args.bytes.now) c.args.at c.in_ok-answer.answer (certificate_bytes c.in-Some.signer) c.gen_time.result
-    kinds signer (time_is c.args.bytes.now (token_bytes c.in-Ok.token) c.gen_time.result c.in-Ok.ensures.ok c.gen_time.ensures)
+    kinds signer (time_is c.args.bytes.now (token_bytes c.in-Ok.token) c.gen_time.result c.in-Ok.ensures.ok c.gen_time.ensures.value)
     (c.requires.signer (certificate_bytes c.in-Some.signer) signer)
     (λ m there same.
     let A : ℤ → Type 0 = λ z. IsTrue c.in_ok-answer.answer ↔ IsAccepted c.args.links.now.pool c.args.links.now.policy c.args.times.now m z c.args.at in

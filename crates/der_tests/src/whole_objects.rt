@@ -1,0 +1,159 @@
+//! A certificate and a CRL, and what they say.
+
+use crate::pieces::{NAME, NOTHING_CHANGED, USAGE, certificate, extensions, list};
+use std::test::Fail;
+use x509_certs::{Certificate, Crl, Part, read_certificate, read_crl, split_data};
+use xa_io::OutOfMemory;
+
+// What the pieces make, worked out elsewhere.
+const WHOLE_CERTIFICATE: [u8; 176] = [
+    0x30, 0x81, 0xAD, 0x30, 0x81, 0x96, 0xA0, 0x03, 0x02, 0x01, 0x02, 0x02, 0x01, 0x07, 0x30, 0x0D,
+    0x06, 0x0B, 0x2A, 0x86, 0x48, 0x86, 0xF7, 0x0D, 0x01, 0x09, 0x10, 0x03, 0x11, 0x30, 0x0D, 0x31,
+    0x0B, 0x30, 0x09, 0x06, 0x03, 0x55, 0x04, 0x03, 0x0C, 0x02, 0x4B, 0x31, 0x30, 0x20, 0x17, 0x0D,
+    0x33, 0x30, 0x30, 0x31, 0x30, 0x31, 0x30, 0x30, 0x30, 0x30, 0x30, 0x30, 0x5A, 0x18, 0x0F, 0x32,
+    0x30, 0x37, 0x30, 0x30, 0x31, 0x30, 0x31, 0x30, 0x30, 0x30, 0x30, 0x30, 0x30, 0x5A, 0x30, 0x0D,
+    0x31, 0x0B, 0x30, 0x09, 0x06, 0x03, 0x55, 0x04, 0x03, 0x0C, 0x02, 0x4B, 0x31, 0x30, 0x15, 0x30,
+    0x0D, 0x06, 0x0B, 0x2A, 0x86, 0x48, 0x86, 0xF7, 0x0D, 0x01, 0x09, 0x10, 0x03, 0x11, 0x03, 0x04,
+    0x00, 0x01, 0x02, 0x03, 0xA3, 0x26, 0x30, 0x24, 0x30, 0x12, 0x06, 0x03, 0x55, 0x1D, 0x13, 0x01,
+    0x01, 0xFF, 0x04, 0x08, 0x30, 0x06, 0x01, 0x01, 0xFF, 0x02, 0x01, 0x03, 0x30, 0x0E, 0x06, 0x03,
+    0x55, 0x1D, 0x0F, 0x01, 0x01, 0xFF, 0x04, 0x04, 0x03, 0x02, 0x02, 0x04, 0x30, 0x0D, 0x06, 0x0B,
+    0x2A, 0x86, 0x48, 0x86, 0xF7, 0x0D, 0x01, 0x09, 0x10, 0x03, 0x11, 0x03, 0x03, 0x00, 0x09, 0x09,
+];
+
+const WHOLE_LIST: [u8; 135] = [
+    0x30, 0x81, 0x84, 0x30, 0x6E, 0x02, 0x01, 0x01, 0x30, 0x0D, 0x06, 0x0B, 0x2A, 0x86, 0x48, 0x86,
+    0xF7, 0x0D, 0x01, 0x09, 0x10, 0x03, 0x11, 0x30, 0x0D, 0x31, 0x0B, 0x30, 0x09, 0x06, 0x03, 0x55,
+    0x04, 0x03, 0x0C, 0x02, 0x4B, 0x31, 0x17, 0x0D, 0x33, 0x30, 0x30, 0x34, 0x30, 0x31, 0x30, 0x30,
+    0x30, 0x30, 0x30, 0x30, 0x5A, 0x30, 0x3C, 0x30, 0x12, 0x02, 0x01, 0x07, 0x17, 0x0D, 0x33, 0x30,
+    0x30, 0x33, 0x30, 0x31, 0x30, 0x30, 0x30, 0x30, 0x30, 0x30, 0x5A, 0x30, 0x12, 0x02, 0x01, 0x07,
+    0x17, 0x0D, 0x33, 0x30, 0x30, 0x32, 0x30, 0x31, 0x30, 0x30, 0x30, 0x30, 0x30, 0x30, 0x5A, 0x30,
+    0x12, 0x02, 0x01, 0x08, 0x17, 0x0D, 0x33, 0x30, 0x30, 0x31, 0x30, 0x31, 0x30, 0x30, 0x30, 0x30,
+    0x30, 0x30, 0x5A, 0x30, 0x0D, 0x06, 0x0B, 0x2A, 0x86, 0x48, 0x86, 0xF7, 0x0D, 0x01, 0x09, 0x10,
+    0x03, 0x11, 0x03, 0x03, 0x00, 0x09, 0x09,
+];
+
+fn has_names(c: &Certificate<'_>) -> bool {
+    c.whole() == WHOLE_CERTIFICATE.as_slice()
+        && c.serial() == [7].as_slice()
+        && c.issuer() == NAME.as_slice()
+        && c.subject() == NAME.as_slice()
+}
+
+fn has_times(c: &Certificate<'_>) -> bool {
+    c.not_before() == 1_893_456_000 && c.not_after() == 3_155_760_000
+}
+
+fn has_key(c: &Certificate<'_>) -> bool {
+    c.key() == [1, 2, 3].as_slice()
+        && c.signature() == [9, 9].as_slice()
+        && c.key_oid() == c.sign_oid()
+}
+
+fn has_uses(c: &Certificate<'_>) -> bool {
+    let may_sign = c.is_ca() && c.signs_certs() && !c.signs_crls();
+    may_sign && !c.strange() && !c.stamps_time() && c.path_len() == Some(3)
+}
+
+fn no_memory<T>(_: OutOfMemory) -> Result<T, Fail> {
+    Err(Fail::new("memory"))
+}
+
+#[test]
+fn certificates_say_what_stands_in_them(rt: HostRuntime) -> Result<(), Fail> {
+    let whole = match certificate(rt.alloc(), NOTHING_CHANGED, &[]) {
+        Ok(whole) => whole,
+        Err(fault) => return no_memory(fault),
+    };
+    let Ok(c) = read_certificate(whole.as_slice()) else {
+        return Err(Fail::new("no certificate"));
+    };
+    assert!(rt; has_names(&c) && has_times(&c));
+    assert!(rt; has_key(&c) && has_uses(&c));
+    Ok(())
+}
+
+// keyUsage `03 02 07 06` is one bit long, so that keyCertSign and cRLSign aren't in it; `03 03 01 06 00` has both.
+const SHORT_USAGE: [u8; 16] = [
+    0x30, 0x0E, 6, 3, 0x55, 0x1D, 0x0F, 1, 1, 0xFF, 4, 4, 3, 2, 7, 6,
+];
+
+const LONG_USAGE: [u8; 17] = [
+    0x30, 0x0F, 6, 3, 0x55, 0x1D, 0x0F, 1, 1, 0xFF, 4, 5, 3, 3, 1, 6, 0,
+];
+
+// Whether a certificate with this keyUsage may sign certificates, and whether it may sign CRLs.
+fn signs(rt: &HostRuntime, usage: &[u8]) -> Option<(bool, bool)> {
+    let Ok(changed) = extensions(rt.alloc(), usage, &[]) else {
+        return None;
+    };
+    let Ok(whole) = certificate(rt.alloc(), 7, changed.as_slice()) else {
+        return None;
+    };
+    match read_certificate(whole.as_slice()) {
+        Ok(c) => Some((c.signs_certs(), c.signs_crls())),
+        Err(_) => None,
+    }
+}
+
+#[test]
+fn uses_are_bits_that_lie_in_the_string(rt: HostRuntime) {
+    assert!(rt; signs(&rt, &USAGE) == Some((true, false)));
+    assert!(rt; signs(&rt, &SHORT_USAGE) == Some((false, false)));
+    assert!(rt; signs(&rt, &LONG_USAGE) == Some((true, true)));
+}
+
+fn is_bad_at(bytes: &[u8], at: usize) -> bool {
+    match read_certificate(bytes) {
+        Ok(_) => false,
+        Err(fault) => fault.at == at,
+    }
+}
+
+fn begins_with_certificate(bytes: &[u8]) -> bool {
+    if bytes.is_empty() {
+        return false;
+    }
+    match split_data(bytes, 0) {
+        Ok(Part::Cert(c)) => c.whole().len() == 176,
+        _ => false,
+    }
+}
+
+#[test]
+fn certificates_are_all_of_the_bytes(rt: HostRuntime) -> Result<(), Fail> {
+    let mut whole = match certificate(rt.alloc(), NOTHING_CHANGED, &[]) {
+        Ok(whole) => whole,
+        Err(fault) => return no_memory(fault),
+    };
+    let len = whole.as_slice().len();
+    assert!(rt; len == 176 && is_bad_at(whole.as_slice().split_at(len - 1).0, 0));
+    assert!(rt; whole.push_all(&[0]).is_ok());
+    assert!(rt; is_bad_at(whole.as_slice(), 176) && begins_with_certificate(whole.as_slice()));
+    Ok(())
+}
+
+fn has_head(c: &Crl<'_>) -> bool {
+    c.whole() == WHOLE_LIST.as_slice()
+        && c.issuer() == NAME.as_slice()
+        && c.this_update() == 1_901_232_000
+}
+
+fn has_entries(c: &Crl<'_>) -> bool {
+    c.revoked(&[7]) == Some(1_896_134_400)
+        && c.revoked(&[8]) == Some(1_893_456_000)
+        && c.revoked(&[9]).is_none()
+}
+
+#[test]
+fn lists_say_what_stands_in_them(rt: HostRuntime) -> Result<(), Fail> {
+    let whole = match list(rt.alloc(), NOTHING_CHANGED, &[]) {
+        Ok(whole) => whole,
+        Err(fault) => return no_memory(fault),
+    };
+    let Ok(c) = read_crl(whole.as_slice()) else {
+        return Err(Fail::new("no CRL"));
+    };
+    assert!(rt; has_head(&c) && c.next_update().is_none() && c.usable());
+    assert!(rt; has_entries(&c));
+    Ok(())
+}
