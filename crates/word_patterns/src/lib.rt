@@ -11,6 +11,3 @@ pub use lookup::{text_behind, texts_behind};
 pub use patterns::{Part, WordForm};
 pub use search::faulty_word;
 pub use text_forms::TextForm;
-
-#[cfg(test)]
-mod tests;

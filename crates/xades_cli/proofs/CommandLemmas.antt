@@ -1,51 +1,75 @@
--- The files of a command, one by one.
-use Rattle.std.proofs.Common.{◌≡◌, ℕ, suc, ◌<◌, ◌≤◌, List, [], ◌∷◌, length, map, refl, sym, ap, subst, get_or, arith, Bor}
+-- What commands come to by their files.
+use Rattle.std.proofs.Common.{◌≡◌, ℕ, ◌<◌, List, [], ◌∷◌, length, map, refl, sym, ap, ◌∙◌, subst, arith}
 use Rattle.std.specs.List.{remove}
+use Rattle.std.specs.Prelude.{Option, Result, Err, true, false, slice_index_or}
 use Rattle.document_model.specs.Canonical.{Form}
-use Rattle.std.specs.Prelude.{Option}
 use Rattle.signature_model.specs.Chains.{Handed}
-use Rattle.word_patterns.specs.Grammar.{text_now}
-use Rattle.xades_cli.specs.Asked.{AskedCanon, AskedOctets, asked_of}
-use Rattle.xades_cli.specs.Commands.{document_want, external_want, outcome_of, wants_of}
-use Rattle.xades_cli.specs.Computed.{IsComputed}
-use Rattle.xades_cli.specs.Outcomes.{canon_outcome}
+use Rattle.whole_files.specs.Roles.{is_document, is_external}
+use Rattle.whole_files.specs.Wants.{Want, Held, IsFor, AreFor, held_of, document_of}
+use Rattle.whole_files.specs.declared.file.File.{File}
+use Rattle.xades_cli.specs.Asked.{Asked, AskedCanon, AskedOctets}
+use Rattle.xades_cli.specs.Canon.{canon_outcome}
+use Rattle.xades_cli.specs.Commands.{document_want, ComesTo, IsComputed}
+use Rattle.xades_cli.specs.Outcomes.{Outcome, IsOf}
 use Rattle.xades_cli.specs.Signing.{handed_by, octets_outcome}
-use Rattle.xades_cli.specs.Wanted.{Want, AreWithin}
-use Rattle.xades_cli.specs.declared.compute.Computed.{Computed}
-use Rattle.xades_cli.specs.declared.words.Command.{Command}
-use Rattle.xades_cli.specs.declared.words.Command.TheVariants.{Canon, Octets}
+use Rattle.xades_cli.specs.declared.answers.Answer.{Answer}
+use Rattle.xades_cli.specs.declared.stop.Stop.{Stop}
+use Rattle.xades_cli.specs.declared.stop.Stop.TheVariants as stops
 use Rattle.xades_cli.proofs.SameHanded.{AreSame, outcome_same}
 
 -- the first of some files is taken away
-pub first_removed : (files : List (List ℕ)) (octets : List ℕ) → 0 < length files → octets ≡ get_or files 0 octets → files ≡ octets ∷ remove files 0
-first_removed [] octets lt first = absurd (omega arith)
-first_removed (file ∷ files) octets lt first = ap (λ front. front ∷ files) (sym first)
+pub first_removed : (files : List File) (file : File) → 0 < length files → file ≡ slice_index_or files 0 file → files ≡ file ∷ remove files 0
+first_removed [] file lt first = absurd (omega arith)
+first_removed (front ∷ files) file lt first = ap (λ f. f ∷ files) (sym first)
 
-first_there : (want : Want) (wants : List Want) (contents : List (List ℕ)) → AreWithin (want ∷ wants) contents → 0 < length contents
-first_there want wants [] within = absurd within
-first_there want wants (bytes ∷ contents) within = omega arith
+-- a command that wants a file has one
+pub some_file : (want : Want) (wants : List Want) (files : List File) → AreFor (want ∷ wants) (map held_of files) → 0 < length files
+some_file want wants [] read = absurd read
+some_file want wants (file ∷ files) read = omega arith
 
--- each command wants a file
-pub some_file : (command : Command) (contents : List (List ℕ)) → AreWithin (wants_of (asked_of command)) contents → 0 < length contents
-some_file (Canon document method id) contents within = first_there (document_want document.now) [] contents within
-some_file (Octets document externals) contents within = first_there (document_want document.now) (map external_want (map text_now externals.items)) contents within
+pub first_read : (want : Want) (wants : List Want) (files : List Held) (file : Held) (others : List Held) → files ≡ file ∷ others → AreFor (want ∷ wants) files → IsFor want file
+first_read want wants files file others whole read = let both : AreFor (want ∷ wants) (file ∷ others) = subst (AreFor (want ∷ wants)) whole read in both.0
 
--- the first file is within its limit, and the others are
-pub first_within : (want : Want) (wants : List Want) (contents others : List (List ℕ)) (bytes : List ℕ) → contents ≡ bytes ∷ others → AreWithin (want ∷ wants) contents → (length bytes ≤ want.limit) × AreWithin wants others
-first_within want wants contents others bytes e within = subst (AreWithin (want ∷ wants)) e within
+-- the octets of a document that was read first, with those that are handed in from the others
+pub octets_come : (name : List ℕ) (files : List Held) (file : Held) (others : List Held) (handed : Handed) (result : Result Answer Stop) → files ≡ file ∷ others → IsFor (document_want name) file
+    → AreSame handed (handed_by others) → IsOf (octets_outcome handed file.bytes) result → IsOf (octets_outcome (handed_by files) (document_of files)) result
+octets_come name files file others handed result whole for same computed =
+    let document : is_document file.role ≡ true = ap is_document for.role in
+    let inside : is_external file.role ≡ false = ap is_external for.role in
+    let bytes : file.bytes ≡ document_of (file ∷ others) = rw document refl in
+    let alike : AreSame handed (handed_by (file ∷ others)) = λ wanted. same wanted ∙ rw inside refl in
+    rw whole (subst (λ outcome. IsOf outcome result) (outcome_same handed (handed_by (file ∷ others)) alike file.bytes ∙ ap (octets_outcome (handed_by (file ∷ others))) bytes) computed)
 
--- there are as many files as names
-pub as_many : (names : List (Bor (List ℕ))) (contents : List (List ℕ)) → AreWithin (map external_want (map text_now names)) contents → length contents ≡ length names
-as_many [] [] within = refl
-as_many [] (bytes ∷ contents) within = absurd within
-as_many (name ∷ names) [] within = absurd within
-as_many (name ∷ names) (bytes ∷ contents) within = ap suc (as_many names contents within.1)
+-- at most one outcome fits
+pub comes_once : (asked : Asked) (files : List Held) (one two : Outcome) → ComesTo asked files one → ComesTo asked files two → one ≡ two
+comes_once (AskedCanon name form id) files one two comes again = comes ∙ sym again
+comes_once (AskedOctets name externals) files one two comes again = comes ∙ sym again
 
-pub canon_comes : (document : List ℕ) (form : Form) (id : Option (List ℕ)) (contents others : List (List ℕ)) (bytes : List ℕ) (result : Computed) → contents ≡ bytes ∷ others
-    → IsComputed (canon_outcome form id bytes) result → IsComputed (outcome_of (AskedCanon document form id) contents) result
-canon_comes document form id contents others bytes result e comes = rw e comes
+-- want of memory is free
+pub memory_wanted : (asked : Asked) (files : List Held) (result : Result Answer Stop) → result ≡ Err stops.OutOfMemory → IsComputed asked files result
+memory_wanted (AskedCanon name form id) files result e = record {
+  outcome = canon_outcome form id (document_of files);
+  comes = refl;
+  computed = rw e tt;
+}
+memory_wanted (AskedOctets name externals) files result e = record {
+  outcome = octets_outcome (handed_by files) (document_of files);
+  comes = refl;
+  computed = rw e tt;
+}
 
-pub octets_come : (document : List ℕ) (names : List (List ℕ)) (contents others : List (List ℕ)) (bytes : List ℕ) (handed : Handed) (result : Computed) → contents ≡ bytes ∷ others
-    → AreSame handed (handed_by names others) → IsComputed (octets_outcome handed bytes) result → IsComputed (outcome_of (AskedOctets document names) contents) result
-octets_come document names contents others bytes handed result e same comes =
-    rw e (subst (λ outcome. IsComputed outcome result) (outcome_same handed (handed_by names others) same bytes) comes)
+pub canon_computed : (name : List ℕ) (form : Form) (id : Option (List ℕ)) (files : List Held) (document : List ℕ) (result : Result Answer Stop) → document ≡ document_of files
+    → IsOf (canon_outcome form id document) result → IsComputed (AskedCanon name form id) files result
+canon_computed name form id files document result e computed = record {
+  outcome = canon_outcome form id (document_of files);
+  comes = refl;
+  computed = subst (λ d. IsOf (canon_outcome form id d) result) e computed;
+}
+
+pub octets_computed : (name : List ℕ) (externals : List (List ℕ)) (files : List Held) (file : Held) (others : List Held) (handed : Handed) (result : Result Answer Stop) → files ≡ file ∷ others → IsFor (document_want name) file
+    → AreSame handed (handed_by others) → IsOf (octets_outcome handed file.bytes) result → IsComputed (AskedOctets name externals) files result
+octets_computed name externals files file others handed result whole for same computed = record {
+  outcome = octets_outcome (handed_by files) (document_of files);
+  comes = refl;
+  computed = octets_come name files file others handed result whole for same computed;
+}

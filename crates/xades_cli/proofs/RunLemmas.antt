@@ -1,119 +1,244 @@
--- What a run comes to.
-use Rattle.std.proofs.Common.{◌≡◌, inl, inr, ℕ, List, [], refl, sym, ◌∙◌}
-use Rattle.std.specs.Prelude.{Option}
+-- How runs end: with an answer that is given out, or by a stop.
+use Rattle.std.proofs.Common.{◌≡◌, ℕ, ◌≤◌, List, refl, sym, ap, ◌∙◌, subst, inl, inr, arith}
+use Rattle.std.specs.Prelude.{true, false, Option, Some, Err}
+use Rattle.doc_spans.specs.declared.faults.DocFault.{DocFault}
+use Rattle.doc_spans.specs.declared.faults.DocFault.TheVariants as documents
+use Rattle.policy_rules.specs.declared.fault.PolicyFault.{PolicyFault}
+use Rattle.policy_rules.specs.declared.fault.PolicyFault.TheVariants as policies
 use Rattle.xa_io.specs.Causes.{Rose}
 use Rattle.xa_io.specs.Shelf.{Files}
-use Rattle.word_patterns.specs.Grammar.{IsFaultyWord}
-use Rattle.xades_cli.specs.Reading.{Counts}
-use Rattle.xades_cli.specs.Words.{patterns, IsCommand}
-use Rattle.xades_cli.specs.Asked.{Asked}
-use Rattle.xades_cli.specs.Wanted.{Want, Fetched, Lacks, IsLong, Found, fetch}
-use Rattle.xades_cli.specs.Causes.{HasCause, HasReadCause}
-use Rattle.xades_cli.specs.Outcomes.{Outcome, Writes, RefusesDocument, RefusesItem}
-use Rattle.xades_cli.specs.Commands.{wants_of, outcome_of}
-use Rattle.xades_cli.specs.Computed.{IsRefusal}
-use Rattle.xades_cli.specs.Answers.{IsByWords, Follows, IsRight, IsSettled, Completes, IsSized}
-use Rattle.doc_spans.specs.declared.faults.DocFault.{DocFault}
-use Rattle.xades_cli.specs.declared.code.Code.{Code}
-use Rattle.xades_cli.specs.declared.status.Status.{Status}
-use Rattle.xades_cli.specs.declared.status.Status.TheVariants.{Done, BadWords, NoSuchFile, ReadFault, WriteFault, TooLong, BadDocument, Refused, OutOfMemory}
+use Rattle.xa_io.specs.Sink.{appended, GaveFirst}
+use Rattle.whole_files.specs.Asking.{AsksInOrder}
+use Rattle.whole_files.specs.Faults.{HasGrown}
+use Rattle.whole_files.specs.Wants.{names_of}
+use Rattle.whole_files.specs.declared.fault.FileFault.TheVariants as faults
 use Rattle.word_patterns.proofs.GrammarLemmas.{faulty_don't_fit}
+use Rattle.xades_cli.specs.Asked.{Asked, asked_by}
+use Rattle.xades_cli.specs.Commands.{wants_of, ComesTo}
+use Rattle.xades_cli.specs.Giving.{IsGiven}
+use Rattle.xades_cli.specs.Judging.{IsJudged, IsJudgedRight, IsAnswered, HasStopCause}
+use Rattle.xades_cli.specs.Lines.{IsSized}
+use Rattle.xades_cli.specs.Outcomes.{Outcome, Writes, Reports, RefusesDocument, RefusesPolicy, RefusesData, RefusesItem, IsFaultyDocument, IsToldOfPolicy, Gives, Refuses, Follows}
+use Rattle.xades_cli.specs.Runs.{IsRun, IsCarriedOut, HoldsNoMemory, ShelfState, SinkState, stage_of, OfOutcome, IsByWords, IsRight, HasCause}
+use Rattle.xades_cli.specs.Stops.{ended_by, ended_by_refusal}
+use Rattle.xades_cli.specs.Words.{patterns, IsCommand}
+use Rattle.xades_cli.specs.declared.answers.Answer.{Answer}
+use Rattle.xades_cli.specs.declared.answers.Answer.TheVariants.{Text, Report}
+use Rattle.xades_cli.specs.declared.status.Status.{Status}
+use Rattle.xades_cli.specs.declared.status.Status.TheVariants.{Done, No, WriteFault, BadDocument, BadPolicy}
+use Rattle.xades_cli.specs.declared.stop.Refusal.{Refusal}
+use Rattle.xades_cli.specs.declared.stop.Refusal.TheVariants as refusals
+use Rattle.xades_cli.specs.declared.stop.Stop.{Stop}
+use Rattle.xades_cli.specs.declared.stop.Stop.TheVariants as stops
+use Rattle.xades_cli.proofs.CommandLemmas.{comes_once}
+use Rattle.whole_files.proofs.HeldLemmas.{held_once, none_missing, none_too_long}
 
--- a faulty word and the words of a command exclude each other
-pub no_command : (words : List (List ℕ)) (number : ℕ) → IsFaultyWord patterns words number → IsCommand words → ⊥
-no_command words number found command = faulty_don't_fit patterns words number found command
+-- what is refused follows the outcome, and nothing is given
+refused_follows : (outcome : Outcome) (refusal : Refusal) (before : Option (List ℕ)) → Refuses outcome refusal → Follows outcome (ended_by_refusal refusal).status before before
+refused_follows (RefusesDocument document) (refusals.Document fault size) before refuses = refuses.0
+refused_follows (RefusesPolicy fault) (refusals.Policy told) before refuses = refuses.0
+refused_follows (RefusesData name at) (refusals.Data told place) before refuses = refuses
+refused_follows (RefusesItem item code) (refusals.Item number told) before refuses = refuses
+refused_follows outcome refusal before refuses = absurd refuses
 
--- the words of a command don't end in the status for a faulty word
-pub by_command : (words : List (List ℕ)) (status : Status) → IsCommand words → ((index : ℕ) → status ≡ BadWords index → ⊥) → IsByWords words status
-by_command words (BadWords index) command read = absurd (read index refl)
-by_command words OutOfMemory command read = tt
-by_command words Done command read = command
-by_command words (NoSuchFile name) command read = command
-by_command words (ReadFault name) command read = command
-by_command words WriteFault command read = command
-by_command words (TooLong name got) command read = command
-by_command words (BadDocument why) command read = command
-by_command words (Refused item code) command read = command
+faulty_document : (document : List ℕ) (fault : DocFault) → IsFaultyDocument document fault → HoldsNoMemory (BadDocument fault)
+faulty_document document documents.OutOfMemory faulty = absurd faulty
+faulty_document document fault faulty = tt
 
-document_refused : (outcome : Outcome) (why : DocFault) (before : Option (List ℕ)) → IsRefusal outcome (BadDocument why) → Follows outcome (BadDocument why) before before
-document_refused (Writes bytes) why before refusal = absurd refusal
-document_refused (RefusesDocument document) why before refusal = refusal
-document_refused (RefusesItem item code) why before refusal = absurd refusal
+told_policy : (fault : PolicyFault) → IsToldOfPolicy fault → HoldsNoMemory (BadPolicy fault)
+told_policy policies.OutOfMemory told = absurd told
+told_policy fault told = tt
 
-item_refused : (outcome : Outcome) (item : ℕ) (code : Code) (before : Option (List ℕ)) → IsRefusal outcome (Refused item code) → Follows outcome (Refused item code) before before
-item_refused (Writes bytes) item code before refusal = absurd refusal
-item_refused (RefusesDocument document) item code before refusal = absurd refusal
-item_refused (RefusesItem number why) item code before refusal = refusal
+refused_told : (outcome : Outcome) (refusal : Refusal) → Refuses outcome refusal → HoldsNoMemory (ended_by_refusal refusal).status
+refused_told (RefusesDocument document) (refusals.Document fault size) refuses = faulty_document document fault refuses.0
+refused_told (RefusesPolicy fault) (refusals.Policy told) refuses = told_policy told refuses.1
+refused_told (RefusesData name at) (refusals.Data told place) refuses = tt
+refused_told (RefusesItem item code) (refusals.Item number told) refuses = tt
+refused_told outcome refusal refuses = absurd refuses
 
--- a refusal is right where the files are found, and nothing is given
-pub refused_right : (asked : Asked) (files : Files) (contents : List (List ℕ)) (status : Status) (before : Option (List ℕ)) → fetch files [] (wants_of asked) ≡ Found contents → IsRefusal (outcome_of asked contents) status → IsRight asked files status before before
-refused_right asked files contents OutOfMemory before found refusal = tt
-refused_right asked files contents (BadDocument why) before found refusal = record {
-  contents = contents;
-  found = found;
-  follows = document_refused (outcome_of asked contents) why before refusal;
+-- an answer that was given follows the outcome
+answer_follows : (outcome : Outcome) (answer : Answer) (status : Status) (before now : Option (List ℕ)) → Gives outcome answer → IsGiven answer status before now → Follows outcome status before now
+answer_follows (Writes bytes) (Text text) Done before now gives given = given ∙ ap (appended before) gives
+answer_follows (Writes bytes) (Text text) WriteFault before now gives given = subst (λ t. GaveFirst t before now) gives given
+answer_follows (Reports true bytes) (Report text true) Done before now gives given = given ∙ ap (appended before) gives.0
+answer_follows (Reports true bytes) (Report text true) WriteFault before now gives given = subst (λ t. GaveFirst t before now) gives.0 given
+answer_follows (Reports false bytes) (Report text false) No before now gives given = given ∙ ap (appended before) gives.0
+answer_follows (Reports false bytes) (Report text false) WriteFault before now gives given = subst (λ t. GaveFirst t before now) gives.0 given
+answer_follows (Reports true bytes) (Report text false) status before now gives given = let e : false ≡ true = gives.1 in cc
+answer_follows (Reports false bytes) (Report text true) status before now gives given = let e : true ≡ false = gives.1 in cc
+answer_follows (Writes bytes) (Text text) status before now gives given = absurd given
+answer_follows (Reports true bytes) (Report text true) status before now gives given = absurd given
+answer_follows (Reports false bytes) (Report text false) status before now gives given = absurd given
+answer_follows outcome answer status before now gives given = absurd gives
+
+-- with a status of the outcome
+abbrev pub IsOfOutcome : Status → Type 0
+IsOfOutcome Done = Unit {0}
+IsOfOutcome No = Unit {0}
+IsOfOutcome WriteFault = Unit {0}
+IsOfOutcome status = ⊥
+
+given_outcome : (answer : Answer) (status : Status) (before now : Option (List ℕ)) → IsGiven answer status before now → IsOfOutcome status
+given_outcome (Text text) Done before now given = tt
+given_outcome (Text text) WriteFault before now given = tt
+given_outcome (Report text true) Done before now given = tt
+given_outcome (Report text false) No before now given = tt
+given_outcome (Report text verdict) WriteFault before now given = tt
+given_outcome answer status before now given = absurd given
+
+outcome_stage : (status : Status) → IsOfOutcome status → stage_of status ≡ OfOutcome
+outcome_stage Done of = refl
+outcome_stage No of = refl
+outcome_stage WriteFault of = refl
+outcome_stage status of = absurd of
+
+outcome_memory : (status : Status) → IsOfOutcome status → HoldsNoMemory status
+outcome_memory Done of = tt
+outcome_memory No of = tt
+outcome_memory WriteFault of = tt
+outcome_memory status of = absurd of
+
+-- a run that gives out an answer
+pub answered : (words : List (List ℕ)) (shelf shelf_now : ShelfState) (out out_now : SinkState) (answer : Answer) (status : Status) → IsCommand words
+    → ((files : Files) → shelf.held ≡ Some files → IsAnswered (asked_by words) files answer)
+    → AsksInOrder (names_of (wants_of (asked_by words))) shelf.asked shelf_now.asked → shelf_now.held ≡ shelf.held → HasGrown shelf.counts shelf_now.counts
+    → IsGiven answer status out.given out_now.given → (status ≡ WriteFault → Rose out.faults out_now.faults) → out.faults ≤ out_now.faults
+    → IsRun words shelf shelf_now out out_now status
+answered words shelf shelf_now out out_now answer status command told asks held grown given write stays =
+    let of = given_outcome answer status out.given out_now.given given in
+    let stage = sym (outcome_stage status of) in
+    let carried : (files : Files) → shelf.held ≡ Some files → IsCarriedOut (asked_by words) files status out.given out_now.given
+    = λ files e. let a = told files e in record {
+      files = a.files;
+      outcome = a.outcome;
+      held = a.held;
+      comes = a.comes;
+      follows = answer_follows a.outcome answer status out.given out_now.given a.gives given;
+    } in record {
+      by_words = subst (IsByWords words) stage command;
+      told = λ files e fits. subst (IsRight (asked_by words) files status out.given out_now.given) stage (carried files e);
+      cause = subst (HasCause (wants_of (asked_by words)) shelf.counts shelf_now.counts) stage tt;
+      write = write;
+      complete = λ files e fits fine sound all whole. inr (carried files e, λ fault. sound (write fault));
+      memory = outcome_memory status of;
+      asked = asks;
+      held = held;
+      grown = grown;
+      faults_stay = stays;
+    }
+
+refusal_stage : (refusal : Refusal) → stage_of (ended_by_refusal refusal).status ≡ OfOutcome
+refusal_stage (refusals.Document fault size) = refl
+refusal_stage (refusals.Policy fault) = refl
+refusal_stage (refusals.Data name at) = refl
+refusal_stage (refusals.Item item code) = refl
+
+refusal_writes_nothing : (refusal : Refusal) → (ended_by_refusal refusal).status ≡ WriteFault → ⊥
+refusal_writes_nothing (refusals.Document fault size) e = cc
+refusal_writes_nothing (refusals.Policy fault) e = cc
+refusal_writes_nothing (refusals.Data name at) e = cc
+refusal_writes_nothing (refusals.Item item code) e = cc
+
+-- a run that stops
+pub stopped : (words : List (List ℕ)) (shelf shelf_now : ShelfState) (out : SinkState) (stop : Stop) → IsJudged words (Err stop)
+    → ((files : Files) → shelf.held ≡ Some files → IsJudgedRight (asked_by words) files (Err stop))
+    → HasStopCause (wants_of (asked_by words)) shelf.counts shelf_now.counts (Err stop)
+    → AsksInOrder (names_of (wants_of (asked_by words))) shelf.asked shelf_now.asked → shelf_now.held ≡ shelf.held → HasGrown shelf.counts shelf_now.counts
+    → IsRun words shelf shelf_now out out (ended_by stop).status
+stopped words shelf shelf_now out (stops.Words index) judged told cause asks held grown = record {
+  by_words = judged;
+  told = λ files e fits. absurd (faulty_don't_fit patterns words index judged fits);
+  cause = tt;
+  write = λ e. cc;
+  complete = λ files e fits fine sound all whole. absurd (faulty_don't_fit patterns words index judged fits);
+  memory = tt;
+  asked = asks;
+  held = held;
+  grown = grown;
+  faults_stay = omega arith;
 }
-refused_right asked files contents (Refused item code) before found refusal = record {
-  contents = contents;
-  found = found;
-  follows = item_refused (outcome_of asked contents) item code before refusal;
+stopped words shelf shelf_now out (stops.File name faults.NoSuch) judged told cause asks held grown = record {
+  by_words = judged;
+  told = λ files e fits. told files e;
+  cause = cause;
+  write = λ e. cc;
+  complete = λ files e fits fine sound all whole. absurd (none_missing files (wants_of (asked_by words)) all name whole (told files e));
+  memory = tt;
+  asked = asks;
+  held = held;
+  grown = grown;
+  faults_stay = omega arith;
 }
-refused_right asked files contents Done before found refusal = absurd refusal
-refused_right asked files contents (BadWords index) before found refusal = absurd refusal
-refused_right asked files contents (NoSuchFile name) before found refusal = absurd refusal
-refused_right asked files contents (ReadFault name) before found refusal = absurd refusal
-refused_right asked files contents WriteFault before found refusal = absurd refusal
-refused_right asked files contents (TooLong name got) before found refusal = absurd refusal
+stopped words shelf shelf_now out (stops.File name faults.Failed) judged told cause asks held grown = record {
+  by_words = judged;
+  told = λ files e fits. told files e;
+  cause = cause;
+  write = λ e. cc;
+  complete = λ files e fits fine sound all whole. absurd (fine cause.1);
+  memory = tt;
+  asked = asks;
+  held = held;
+  grown = grown;
+  faults_stay = omega arith;
+}
+stopped words shelf shelf_now out (stops.File name (faults.TooLong got)) judged told cause asks held grown = record {
+  by_words = judged;
+  told = λ files e fits. told files e;
+  cause = cause;
+  write = λ e. cc;
+  complete = λ files e fits fine sound all whole. absurd (none_too_long files (wants_of (asked_by words)) all name got whole (told files e));
+  memory = tt;
+  asked = asks;
+  held = held;
+  grown = grown;
+  faults_stay = omega arith;
+}
+stopped words shelf shelf_now out stops.OutOfMemory judged told cause asks held grown = record {
+  by_words = tt;
+  told = λ files e fits. tt;
+  cause = tt;
+  write = λ e. cc;
+  complete = λ files e fits fine sound all whole. inl refl;
+  memory = tt;
+  asked = asks;
+  held = held;
+  grown = grown;
+  faults_stay = omega arith;
+}
+stopped words shelf shelf_now out (stops.Refusal refusal) judged told cause asks held grown =
+    let stage = sym (refusal_stage refusal) in
+    let carried : (files : Files) → shelf.held ≡ Some files → IsCarriedOut (asked_by words) files (ended_by_refusal refusal).status out.given out.given
+    = λ files e. let r = told files e in record {
+      files = r.files;
+      outcome = r.outcome;
+      held = r.held;
+      comes = r.comes;
+      follows = refused_follows r.outcome refusal out.given r.refuses;
+    } in record {
+      by_words = subst (IsByWords words) stage judged.0;
+      told = λ files e fits. subst (IsRight (asked_by words) files (ended_by_refusal refusal).status out.given out.given) stage (carried files e);
+      cause = subst (HasCause (wants_of (asked_by words)) shelf.counts shelf_now.counts) stage tt;
+      write = λ e. absurd (refusal_writes_nothing refusal e);
+      complete = λ files e fits fine sound all whole. inr (carried files e, refusal_writes_nothing refusal);
+      memory = refused_told judged.1.outcome refusal judged.1.refuses;
+      asked = asks;
+      held = held;
+      grown = grown;
+      faults_stay = omega arith;
+    }
 
--- a fault of the reading tells of no place in a document
-pub read_sized : (wants : List Want) (before now : Counts) (status : Status) (fetched : Fetched) (size : ℕ) → HasReadCause wants before now status → IsSized status fetched size
-read_sized wants before now (BadDocument why) fetched size cause = absurd cause
-read_sized wants before now (Refused item code) fetched size cause = tt
-read_sized wants before now Done fetched size cause = tt
-read_sized wants before now (BadWords index) fetched size cause = tt
-read_sized wants before now (NoSuchFile name) fetched size cause = tt
-read_sized wants before now (ReadFault name) fetched size cause = tt
-read_sized wants before now WriteFault fetched size cause = tt
-read_sized wants before now (TooLong name got) fetched size cause = tt
-read_sized wants before now OutOfMemory fetched size cause = tt
-
-settled_done : (outcome : Outcome) (before now : Option (List ℕ)) → Follows outcome Done before now → IsSettled outcome Done before now
-settled_done (Writes bytes) before now follows = follows
-settled_done (RefusesDocument document) before now follows = absurd follows
-settled_done (RefusesItem item why) before now follows = absurd follows
-
-settled_document : (outcome : Outcome) (why : DocFault) (before now : Option (List ℕ)) → Follows outcome (BadDocument why) before now → IsSettled outcome (BadDocument why) before now
-settled_document (Writes bytes) why before now follows = absurd follows
-settled_document (RefusesDocument document) why before now follows = follows
-settled_document (RefusesItem item code) why before now follows = absurd follows
-
-settled_item : (outcome : Outcome) (item : ℕ) (code : Code) (before now : Option (List ℕ)) → Follows outcome (Refused item code) before now → IsSettled outcome (Refused item code) before now
-settled_item (Writes bytes) item code before now follows = absurd follows
-settled_item (RefusesDocument document) item code before now follows = absurd follows
-settled_item (RefusesItem number why) item code before now follows = follows
-
-same_contents : (one two : List (List ℕ)) → Found one ≡ Found two → one ≡ two
-same_contents one two e = cc
-
-clash_lacks : (fetched : Fetched) (name : List ℕ) (contents : List (List ℕ)) → fetched ≡ Lacks name → fetched ≡ Found contents → ⊥
-clash_lacks fetched name contents one two = cc
-
-clash_long : (fetched : Fetched) (name : List ℕ) (limit size : ℕ) (contents : List (List ℕ)) → fetched ≡ IsLong name limit size → fetched ≡ Found contents → ⊥
-clash_long fetched name limit size contents one two = cc
-
-pub completes : (words : List (List ℕ)) (asked : Asked) (files : Files) (counts_before counts_now : Counts) (out_rose : Type 0) (status : Status) (before now : Option (List ℕ)) → (Rose counts_before.faults counts_now.faults → ⊥) → (out_rose → ⊥) → (status ≡ WriteFault → out_rose) → HasCause (wants_of asked) counts_before counts_now status → IsByWords words status → IsCommand words → IsRight asked files status before now → Completes asked files status before now
-completes words asked files cb cn rose OutOfMemory before now fine whole write cause by_words command right = λ contents found. inl refl
-completes words asked files cb cn rose (NoSuchFile name) before now fine whole write cause by_words command right = λ contents found. absurd (clash_lacks (fetch files [] (wants_of asked)) name contents right found)
-completes words asked files cb cn rose (ReadFault name) before now fine whole write cause by_words command right = λ contents found. absurd (fine cause.1)
-completes words asked files cb cn rose (TooLong name got) before now fine whole write cause by_words command right = λ contents found. absurd (clash_long (fetch files [] (wants_of asked)) name right.limit right.size contents right.long found)
-completes words asked files cb cn rose Done before now fine whole write cause by_words command right = λ contents found.
-    let e = same_contents right.contents contents (sym right.found ∙ found) in
-    inr (rw (← e) (settled_done (outcome_of asked right.contents) before now right.follows))
-completes words asked files cb cn rose (BadWords index) before now fine whole write cause by_words command right = λ contents found. absurd (no_command words index by_words command)
-completes words asked files cb cn rose WriteFault before now fine whole write cause by_words command right = λ contents found. absurd (whole (write refl))
-completes words asked files cb cn rose (BadDocument why) before now fine whole write cause by_words command right = λ contents found.
-    let e = same_contents right.contents contents (sym right.found ∙ found) in
-    inr (rw (← e) (settled_document (outcome_of asked right.contents) why before now right.follows))
-completes words asked files cb cn rose (Refused item code) before now fine whole write cause by_words command right = λ contents found.
-    let e = same_contents right.contents contents (sym right.found ∙ found) in
-    inr (rw (← e) (settled_item (outcome_of asked right.contents) item code before now right.follows))
+-- the size that goes with a fault of the document is that document's
+pub sized : (asked : Asked) (shelf : Files) (stop : Stop) → IsJudgedRight asked shelf (Err stop) → IsSized asked shelf (ended_by stop).status (ended_by stop).size
+sized asked shelf (stops.Refusal (refusals.Document fault size)) right = λ files document held comes.
+    let same : right.files ≡ files = held_once shelf (wants_of asked) right.files files right.held held in
+    let one : right.outcome ≡ RefusesDocument document = comes_once asked files right.outcome (RefusesDocument document) (subst (λ f. ComesTo asked f right.outcome) same right.comes) comes in
+    let refuses : Refuses (RefusesDocument document) (refusals.Document fault size) = subst (λ o. Refuses o (refusals.Document fault size)) one right.refuses in
+    refuses.1
+sized asked shelf (stops.Refusal (refusals.Policy fault)) right = tt
+sized asked shelf (stops.Refusal (refusals.Data name at)) right = tt
+sized asked shelf (stops.Refusal (refusals.Item item code)) right = tt
+sized asked shelf (stops.Words index) right = tt
+sized asked shelf (stops.File name faults.NoSuch) right = tt
+sized asked shelf (stops.File name faults.Failed) right = tt
+sized asked shelf (stops.File name (faults.TooLong got)) right = tt
+sized asked shelf stops.OutOfMemory right = tt

@@ -1,11 +1,12 @@
 pub mod Words
 pub mod Asked
-pub mod Reading
-pub mod Wanted
-pub mod Causes
 pub mod Outcomes
+pub mod Stops
+pub mod Reading
+pub mod Canon
 pub mod Signing
 pub mod Commands
-pub mod Computed
-pub mod Answers
+pub mod Runs
+pub mod Giving
+pub mod Judging
 pub mod Lines

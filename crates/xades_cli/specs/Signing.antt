@@ -1,6 +1,6 @@
 -- What `octets` comes to for a signature: the octets that it signs, or the first code that stands against it. XML Signature 1.1, "Core
 -- Generation"; codes and their order are this project's own.
-use Rattle.std.specs.Prelude.{ℕ, Bool, true, false, if◌then◌else◌, List, [], ◌∷◌, Option, None, Some, min, unwrap_or}
+use Rattle.std.specs.Prelude.{ℕ, Bool, true, false, ◌&&◌, if◌then◌else◌, List, [], ◌∷◌, Option, None, Some, min, unwrap_or}
 use Rattle.std.specs.Str.{chars}
 use Rattle.document_model.specs.Characters.{◌is◌}
 use Rattle.document_model.specs.Documents
@@ -20,15 +20,16 @@ use Rattle.signature_model.specs.Readable.{Answer, Read, answer}
 use Rattle.signature_model.specs.Spots.{Spot}
 use Rattle.signature_shape.specs.declared.what.What.{What}
 use Rattle.signature_shape.specs.declared.what.What.TheVariants as what
+use Rattle.whole_files.specs.Roles.{is_external}
+use Rattle.whole_files.specs.Wants.{Held}
 use Rattle.xades_cli.specs.Outcomes.{Outcome, Writes, RefusesDocument, RefusesItem}
 use Rattle.xades_cli.specs.declared.code.Code.{Code}
 use Rattle.xades_cli.specs.declared.code.Code.TheVariants as refusals
 
--- the octets of the first file with a name, where the names of some files and their octets are two lists
-abbrev pub handed_by : List (List ℕ) → List (List ℕ) → Handed
-handed_by [] contents wanted = None
-handed_by (name ∷ names) [] wanted = None
-handed_by (name ∷ names) (octets ∷ contents) wanted = if wanted is chars name then Some octets else handed_by names contents wanted
+-- the octets of the first file with a name, of those that are handed in for References
+abbrev pub handed_by : List Held → Handed
+handed_by [] wanted = None
+handed_by (file ∷ files) wanted = if is_external file.role && (wanted is chars file.name) then Some file.bytes else handed_by files wanted
 
 -- a line of a signature's shape in a code
 abbrev pub line_named : lines.What → What

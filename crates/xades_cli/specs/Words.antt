@@ -2,8 +2,8 @@
 use Rattle.std.specs.Prelude.{ℕ, List, [], ◌∷◌, codes}
 use Rattle.word_patterns.specs.Grammar.{WordForm, Plain, Keyed, Part, once, FitsOne, IsFaultyWord}
 use Rattle.word_patterns.specs.TextForms.{is_file_name, are_prefixes, is_some_text}
-use Rattle.xades_cli.specs.declared.status.Status.{Status}
-use Rattle.xades_cli.specs.declared.status.Status.TheVariants.{BadWords, OutOfMemory}
+use Rattle.xades_cli.specs.declared.stop.Stop.{Stop}
+use Rattle.xades_cli.specs.declared.stop.Stop.TheVariants as stops
 
 -- a word that names a file behind a key
 abbrev pub file_word : List ℕ → WordForm
@@ -45,8 +45,9 @@ patterns = exclusive_words ∷ inclusive_words ∷ signature_words ∷ []
 abbrev pub IsCommand : List (List ℕ) → Type 0
 IsCommand words = FitsOne patterns words
 
--- a status that tells of the words tells the faulty one
-abbrev pub IsWordFault : List (List ℕ) → Status → Type 0
-IsWordFault words (BadWords index) = IsFaultyWord patterns words index
-IsWordFault words OutOfMemory = Unit {0}
-IsWordFault words status = ⊥
+-- a stop tells of the words where it tells the faulty one; want of memory is free
+abbrev pub IsWordFault : List (List ℕ) → Stop → Type 0
+IsWordFault words (stops.Words index) = IsFaultyWord patterns words index
+IsWordFault words stops.OutOfMemory = Unit {0}
+IsWordFault words (stops.File name fault) = ⊥
+IsWordFault words (stops.Refusal refusal) = ⊥

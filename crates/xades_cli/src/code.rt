@@ -5,7 +5,7 @@ use signature_shape::What;
 
 /// Why an item of a command is refused. `k` is the number of a Reference, from 1; 0 stands for the command's own identifier. `at` is the
 /// place of an element's first byte in the document, from 0.
-#[derive(Clone, Copy, PartialEq, Eq, Debug)]
+#[derive(Debug, Drop)]
 pub enum Code {
     /// A1: the document has no signature.
     NoSignature,

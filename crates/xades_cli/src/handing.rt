@@ -1,28 +1,23 @@
 // Files that are handed in for References.
-ghost use Rattle.std.specs.Prelude.{◌≡◌, ℕ, List, length, map, IfOk};
+ghost use Rattle.std.specs.Prelude.{◌≡◌, ℕ, List, map, IfOk};
 ghost use Rattle.reference_chains.specs.HandedIn.{handed_in};
-ghost use Rattle.word_patterns.specs.Grammar.{text_now};
+ghost use Rattle.whole_files.specs.Wants.{held_of};
 ghost use Rattle.xades_cli.specs.Signing.{handed_by};
 
 use references::Externals;
 use std::alloc::Global;
-use xa_io::{Octs, OutOfMemory};
+use whole_files::File;
+use xa_io::OutOfMemory;
 
-/// Hands in files under their names, of which there are as many.
-pub fn hand_in(
-    alloc: Global,
-    names: &[&str],
-    mut files: Vec<Octs>,
-) -> Result<Externals, OutOfMemory>
-    requires { length files.items ≡ length names.now }
-    ensures { IfOk result (λ externals. (wanted : List ℕ) → handed_in externals wanted ≡ handed_by (map text_now names.now) files.items wanted) }
+/// Hands in the external files, each under its name.
+pub fn hand_in(alloc: Global, files: Vec<File<'_>>) -> Result<Externals, OutOfMemory>
+    ensures { IfOk result (λ externals. (wanted : List ℕ) → handed_in externals wanted ≡ handed_by (map held_of files.entry.items) wanted) }
 {
     let mut externals = Externals::new(alloc);
-    for name in names {
-        let octets = files.remove(0);
-        let Ok(()) = externals.add(name, octets) else {
-            return Err(OutOfMemory);
-        };
+    for file in files {
+        if file.role.is_external() {
+            externals.add(file.name, file.bytes)?;
+        }
     }
     Ok(externals)
 }

@@ -1,5 +1,5 @@
 // The octets that a signature signs.
-ghost use Rattle.std.specs.Prelude.{◌≡◌, ◌≤◌, length, Option, unwrap_or};
+ghost use Rattle.std.specs.Prelude.{◌≡◌, ◌≤◌, length, Option, unwrap_or, Err};
 ghost use Rattle.canon_forms.specs.Forms as forms;
 ghost use Rattle.document_model.specs.Tree.{Nodes};
 ghost use Rattle.doc_spans.specs.Seen.{bytes_in, document_in};
@@ -11,47 +11,40 @@ ghost use Rattle.signature_elements.specs.Standing.{spot_of, IsThere};
 ghost use Rattle.signature_model.specs.Chains.{fault, Fault, Handed};
 ghost use Rattle.signature_model.specs.Octets.{value_octets};
 ghost use Rattle.signature_model.specs.Parts.{form_in, is_signed, plain_form, references};
-ghost use Rattle.signature_model.specs.Readable.{Answer};
+ghost use Rattle.signature_model.specs.Readable.{Answer as Found};
 ghost use Rattle.signature_model.specs.Spots.{Spot};
-ghost use Rattle.xades_cli.specs.Computed.{IsComputed};
-ghost use Rattle.xades_cli.specs.Outcomes.{Writes};
+ghost use Rattle.xades_cli.specs.Outcomes.{IsOf, Writes};
 ghost use Rattle.xades_cli.specs.Signing.{by_answer, octets_outcome, signature_outcome, unless_faulty, unless_signed};
 
+use crate::answers::Answer;
+use crate::canon::write_set;
 use crate::code::Code;
-use crate::compute::{Computed, refuse};
-use crate::status::Status;
-use canon_forms::{Form, read_form, to_vec};
-use doc_spans::{Doc, DocFault, NodeId, Tree};
+use crate::documents::read_document;
+use crate::stop::{Stop, refuse};
+use canon_forms::{Form, read_form};
+use doc_spans::{Doc, NodeId};
 use node_sets::NodeSet;
 use qualifying_props::{PartFault, SignatureParts, read_signature};
 use references::{Externals, RefFault, read_refs, self_cover};
 use signature_elements::is_blank;
 use std::alloc::Global;
-use xa_io::{OutOfMemory, Steps};
-
-// Marks the steps of reading the document.
-struct Reading;
 
 /// The octets that the signature of a document signs, its `SignedInfo` in the form of its `CanonicalizationMethod` (XML Signature 1.1,
 /// section 4.4), or why it can't be signed.
-pub fn octets_to_sign(alloc: Global, document: &[u8], externals: &Externals) -> Computed
+pub fn octets_to_sign(alloc: Global, document: &[u8], externals: &Externals) -> Result<Answer, Stop>
     requires { length document.now ≤ 16777216 }
-    ensures { IsComputed (octets_outcome (handed_in externals.now) document.now) result }
+    ensures { IsOf (octets_outcome (handed_in externals.now) document.now) result }
 {
-    let mut steps: Steps<Reading> = Steps::new();
-    match Tree::read(alloc, document, &mut steps) {
-        Ok(tree) => judge_signature(alloc, Doc::of(document, &tree), externals),
-        Err(DocFault::OutOfMemory) => Computed::Refused(Status::OutOfMemory),
-        Err(fault) => Computed::Refused(Status::BadDocument(fault)),
-    }
+    let tree = read_document(alloc, document)?;
+    judge_signature(alloc, Doc::of(document, &tree), externals)
 }
 
-fn judge_signature(alloc: Global, doc: Doc<'_>, externals: &Externals) -> Computed
-    ensures { IsComputed (signature_outcome (handed_in externals.now) (bytes_in doc.entry) (document_in doc.entry)) result }
+fn judge_signature(alloc: Global, doc: Doc<'_>, externals: &Externals) -> Result<Answer, Stop>
+    ensures { IsOf (signature_outcome (handed_in externals.now) (bytes_in doc.entry) (document_in doc.entry)) result }
 {
     match read_signature(alloc, doc) {
         Ok(parts) => judge_references(alloc, doc, &parts, externals),
-        Err(fault) => refuse_parts(fault),
+        Err(fault) => Err(stop_by_parts(fault)),
     }
 }
 
@@ -60,23 +53,23 @@ fn judge_references(
     doc: Doc<'_>,
     parts: &SignatureParts,
     externals: &Externals,
-) -> Computed
+) -> Result<Answer, Stop>
     requires { AreParts doc parts.now }
     ensures { let document = document_in doc.entry in let signature = spot_of doc.entry parts.now.signature in
-        IsComputed (unless_faulty document signature (fault (handed_in externals.now) document signature.path (references document signature))) result }
+        IsOf (unless_faulty document signature (fault (handed_in externals.now) document signature.path (references document signature))) result }
 {
     match read_refs(alloc, doc, parts, externals) {
         Ok(refs) => match self_cover(doc, parts, &refs) {
-            Some(k) => refuse(Code::SelfCover { k }),
+            Some(k) => Err(refuse(Code::SelfCover { k })),
             None => write_unless_signed(alloc, doc, parts),
         },
-        Err(fault) => refuse_reference(fault),
+        Err(fault) => Err(stop_by_reference(fault)),
     }
 }
 
 // Why a signature has no parts.
-fn refuse_parts(fault: PartFault) -> Computed
-    ensures { (doc : Doc) (handed : Handed) (found : Answer) → IsFault doc found fault → IsComputed (by_answer handed (bytes_in doc) (document_in doc) found) result }
+fn stop_by_parts(fault: PartFault) -> Stop
+    ensures { (doc : Doc) (handed : Handed) (found : Found) → IsFault doc found fault → IsOf (by_answer handed (bytes_in doc) (document_in doc) found) (Err result) }
 {
     match fault {
         PartFault::NoSignature => refuse(Code::NoSignature),
@@ -84,13 +77,13 @@ fn refuse_parts(fault: PartFault) -> Computed
         PartFault::Shape { at, what } => refuse(Code::Shape { at, what }),
         PartFault::Include { at } => refuse(Code::Include { at }),
         PartFault::PropertyData { at } => refuse(Code::PropertyData { at }),
-        PartFault::OutOfMemory => Computed::Refused(Status::OutOfMemory),
+        PartFault::OutOfMemory => Stop::OutOfMemory,
     }
 }
 
 // Why the References of a signature aren't read.
-fn refuse_reference(fault: RefFault) -> Computed
-    ensures { (document : Nodes) (signature : Spot) (found : Option Fault) → IsRefFault found fault → IsComputed (unless_faulty document signature found) result }
+fn stop_by_reference(fault: RefFault) -> Stop
+    ensures { (document : Nodes) (signature : Spot) (found : Option Fault) → IsRefFault found fault → IsOf (unless_faulty document signature found) (Err result) }
 {
     match fault {
         RefFault::TargetMissing { k } => refuse(Code::TargetMissing { k }),
@@ -99,18 +92,18 @@ fn refuse_reference(fault: RefFault) -> Computed
         RefFault::DigestName { k } => refuse(Code::DigestName { k }),
         RefFault::External { k } => refuse(Code::External { k }),
         RefFault::Base64 { k, at } => refuse(Code::Base64 { k, at }),
-        RefFault::OutOfMemory => Computed::Refused(Status::OutOfMemory),
+        RefFault::OutOfMemory => Stop::OutOfMemory,
     }
 }
 
 // The octets, where no Reference stands against them and the signature has no value yet.
-fn write_unless_signed(alloc: Global, doc: Doc<'_>, parts: &SignatureParts) -> Computed
+fn write_unless_signed(alloc: Global, doc: Doc<'_>, parts: &SignatureParts) -> Result<Answer, Stop>
     requires { AreParts doc parts.now }
     ensures { let document = document_in doc.entry in let signature = spot_of doc.entry parts.now.signature in
-        IsComputed (unless_signed document signature (is_signed document signature)) result }
+        IsOf (unless_signed document signature (is_signed document signature)) result }
 {
     if is_signed(doc, parts) {
-        return refuse(Code::AlreadySigned);
+        return Err(refuse(Code::AlreadySigned));
     }
     write_signed_info(alloc, doc, parts)
 }
@@ -123,15 +116,12 @@ fn is_signed(doc: Doc<'_>, parts: &SignatureParts) -> bool
     !is_blank(doc, parts.value_node())
 }
 
-fn write_signed_info(alloc: Global, doc: Doc<'_>, parts: &SignatureParts) -> Computed
+fn write_signed_info(alloc: Global, doc: Doc<'_>, parts: &SignatureParts) -> Result<Answer, Stop>
     requires { AreParts doc parts.now }
-    ensures { IsComputed (Writes (value_octets (document_in doc.entry) (spot_of doc.entry parts.now.signature))) result }
+    ensures { IsOf (Writes (value_octets (document_in doc.entry) (spot_of doc.entry parts.now.signature))) result }
 {
     let set = NodeSet::subtree(doc, parts.signed_info());
-    match to_vec(alloc, &set, &form_of(doc, parts.method_node())) {
-        Ok(octets) => Computed::Done(octets),
-        Err(OutOfMemory) => Computed::Refused(Status::OutOfMemory),
-    }
+    write_set(alloc, &set, &form_of(doc, parts.method_node()))
 }
 
 // The canonical form that a method names; it names one where the shape of the signature is sound.

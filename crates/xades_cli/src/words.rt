@@ -4,7 +4,7 @@ ghost use Rattle.word_patterns.specs.Grammar.{IsFaultyWord};
 ghost use Rattle.xades_cli.specs.Asked.{asked_by, asked_of, form_of, form_asked, goes_by, if_any, option_now};
 ghost use Rattle.xades_cli.specs.Words.{patterns, IsCommand, IsWordFault};
 
-use crate::status::Status;
+use crate::stop::Stop;
 use std::alloc::Global;
 use word_patterns::{Part, TextForm, WordForm, faulty_word, text_behind, texts_behind};
 use xa_io::OutOfMemory;
@@ -150,13 +150,10 @@ fn command_of<'a>(alloc: Global, words: &'a [String]) -> Result<Command<'a>, Out
 {
     let document = text_behind("doc=", words);
     if goes_by("octets", words) {
-        return match texts_behind(alloc, "ext=", words) {
-            Ok(externals) => Ok(Command::Octets {
-                document,
-                externals,
-            }),
-            Err(OutOfMemory) => Err(OutOfMemory),
-        };
+        return Ok(Command::Octets {
+            document,
+            externals: texts_behind(alloc, "ext=", words)?,
+        });
     }
     Ok(Command::Canon {
         document,
@@ -165,18 +162,14 @@ fn command_of<'a>(alloc: Global, words: &'a [String]) -> Result<Command<'a>, Out
     })
 }
 
-/// The command that the words are; else the status that tells the first word, from 1, with which no command goes on.
-pub fn read_words<'a>(alloc: Global, words: &'a [String]) -> Result<Command<'a>, Status>
+/// The command that the words are; else why it stops: the first word, from 1, with which no command goes on.
+pub fn read_words<'a>(alloc: Global, words: &'a [String]) -> Result<Command<'a>, Stop>
     ensures { MatchResult result
         (λ command. IsCommand (map string_bytes words.now) × (asked_by (map string_bytes words.now) ≡ asked_of command))
-        (λ status. IsWordFault (map string_bytes words.now) status) }
+        (IsWordFault (map string_bytes words.now)) }
 {
-    match faulty(alloc, words) {
-        Ok(None) => match command_of(alloc, words) {
-            Ok(command) => Ok(command),
-            Err(OutOfMemory) => Err(Status::OutOfMemory),
-        },
-        Ok(Some(index)) => Err(Status::BadWords { index }),
-        Err(OutOfMemory) => Err(Status::OutOfMemory),
+    match faulty(alloc, words)? {
+        Some(index) => Err(Stop::Words { index }),
+        None => Ok(command_of(alloc, words)?),
     }
 }

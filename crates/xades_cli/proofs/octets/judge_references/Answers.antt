@@ -6,5 +6,5 @@ use Rattle.xades_cli.proofs.octets.judge_references.Goals as goal
 
 pub returns : goal.returns
 returns c =
-    c.refuse_reference.ensures (document_in c.args.doc) (spot_of c.args.doc c.args.parts.now.signature)
+    c.stop_by_reference.ensures (document_in c.args.doc) (spot_of c.args.doc c.args.parts.now.signature)
     (fault_in (handed_in c.args.externals.now) c.args.doc c.args.parts.now.signature) c.in-Err.ensures.err

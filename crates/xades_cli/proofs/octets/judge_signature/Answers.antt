@@ -6,4 +6,4 @@ use Rattle.xades_cli.proofs.octets.judge_signature.Goals as goal
 
 pub returns-in-Err : goal.returns-in-Err
 returns-in-Err c =
-    c.refuse_parts.ensures c.args.doc (handed_in c.args.externals.now) (answer is_whole (document_in c.args.doc)) c.in-Err.ensures
+    c.stop_by_parts.ensures c.args.doc (handed_in c.args.externals.now) (answer is_whole (document_in c.args.doc)) c.in-Err.ensures

@@ -1,0 +1,34 @@
+use Rattle.std.proofs.Common.{◌≡◌, ◌∷◌, map, refl, rules}
+use Rattle.std.specs.Prelude.{Err}
+use Rattle.reference_chains.specs.HandedIn.{handed_in}
+use Rattle.whole_files.specs.Wants.{AreFor, held_of, document_of}
+use Rattle.word_patterns.specs.Grammar.{text_now}
+use Rattle.xades_cli.specs.Asked.{asked_of, form_of, option_now}
+use Rattle.xades_cli.specs.Commands.{document_want, external_want}
+use Rattle.xades_cli.specs.Outcomes.{IsOf}
+use Rattle.xades_cli.specs.Signing.{octets_outcome}
+use Rattle.xades_cli.specs.declared.stop.Stop.TheVariants as stops
+use Rattle.xades_cli.proofs.CommandLemmas.{canon_computed, first_read, first_removed, memory_wanted, octets_computed, some_file}
+use Rattle.xades_cli.proofs.commands.compute.Goals as goal
+
+pub returns-in_err-externals-in-Octets : goal.returns-in_err-externals-in-Octets
+returns-in_err-externals-in-Octets c =
+    let memory : c.from_residual.result ≡ Err stops.OutOfMemory = search rules in
+    memory_wanted (asked_of c.args.command.now) (map held_of c.args.files.items) c.from_residual.result memory
+
+pub returns-in-Canon : goal.returns-in-Canon
+returns-in-Canon c =
+    let document : c.document_of.result.now ≡ document_of (map held_of c.args.files.items) = rw (← c.as_slice.ensures.value) c.document_of.ensures in
+    rw c.in-Canon.is (canon_computed c.in-Canon.document.now (form_of c.in-Canon.method) (option_now c.in-Canon.id) (map held_of c.args.files.items) c.document_of.result.now c.canonicalize.result document c.canonicalize.ensures)
+
+pub returns-in_ok-externals-in-Octets : goal.returns-in_ok-externals-in-Octets
+returns-in_ok-externals-in-Octets c =
+    let read : AreFor (document_want c.in-Octets.document.now ∷ map external_want (map text_now c.in-Octets.externals.items)) (map held_of c.args.files.items) = rw c.in-Octets.is at c.requires in
+    let whole : c.args.files.items ≡ c.remove-document.result ∷ c.remove-document.new.self.items
+    = rw c.remove-document.ensures.items (first_removed c.args.files.items c.remove-document.result (some_file (document_want c.in-Octets.document.now) (map external_want (map text_now c.in-Octets.externals.items)) c.args.files.items read) c.remove-document.ensures.value) in
+    let held : map held_of c.args.files.items ≡ held_of c.remove-document.result ∷ map held_of c.remove-document.new.self.items = rw whole refl in
+    let computed : IsOf (octets_outcome (handed_in c.in_ok-externals-in-Octets.externals) c.remove-document.result.bytes) c.octets_to_sign.result = rw (← c.as_slice-in-Octets.ensures.value) c.octets_to_sign.ensures in
+    rw c.in-Octets.is (octets_computed c.in-Octets.document.now (map text_now c.in-Octets.externals.items) (map held_of c.args.files.items) (held_of c.remove-document.result) (map held_of c.remove-document.new.self.items)
+    (handed_in c.in_ok-externals-in-Octets.externals) c.octets_to_sign.result held
+    (first_read (document_want c.in-Octets.document.now) (map external_want (map text_now c.in-Octets.externals.items)) (map held_of c.args.files.items) (held_of c.remove-document.result) (map held_of c.remove-document.new.self.items) held read)
+    c.in_ok-externals-in-Octets.ensures computed)

@@ -1,0 +1,29 @@
+-- What `canon` comes to.
+use Rattle.std.specs.Prelude.{ℕ, List, Option, None, Some}
+use Rattle.std.specs.Str.{chars}
+use Rattle.document_model.specs.Documents
+use Rattle.document_model.specs.Documents.{fault, document_of}
+use Rattle.document_model.specs.Tree.{Nodes}
+use Rattle.document_model.specs.NodeSets.{Target, Missing, Single, Double, target_of, whole, subtree}
+use Rattle.document_model.specs.Canonical.{Form, octets_of}
+use Rattle.xades_cli.specs.declared.code.Code.TheVariants.{TargetMissing, TargetTwice}
+use Rattle.xades_cli.specs.Outcomes.{Outcome, Writes, RefusesDocument, RefusesItem}
+
+-- the canonical text of the element that an identifier names, where it names just one; a command that has no items refuses as item 0
+abbrev pub target_outcome : Form → Target → Nodes → Outcome
+target_outcome form Missing document = RefusesItem 0 (TargetMissing 0)
+target_outcome form Double document = RefusesItem 0 (TargetTwice 0)
+target_outcome form (Single path) document = Writes (octets_of form (subtree path) document)
+
+-- the canonical text of the document, or of an element
+abbrev pub text_outcome : Form → Option (List ℕ) → Nodes → Outcome
+text_outcome form None document = Writes (octets_of form whole document)
+text_outcome form (Some id) document = target_outcome form (target_of (chars id) document) document
+
+-- a document that has a fault is refused
+abbrev pub canon_by : Option Documents.Fault → Form → Option (List ℕ) → List ℕ → Outcome
+canon_by (Some f) form id document = RefusesDocument document
+canon_by None form id document = text_outcome form id (document_of document)
+
+abbrev pub canon_outcome : Form → Option (List ℕ) → List ℕ → Outcome
+canon_outcome form id document = canon_by (fault document) form id document
