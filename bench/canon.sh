@@ -51,7 +51,7 @@ END
 
 # our form's word, and xmllint's word for it
 compare() {
-    measure "  xades canon $1" "$room/ours" "$here/crates/xades_cli/out/xades_cli" canon "doc=$room/document.xml" "$1" comments=yes
+    measure "  xades canon $1" "$room/ours" "$here/crates/xades/out/xades" canon "doc=$room/document.xml" "$1" comments=yes
     if command -v xmllint >/dev/null; then
         measure "  xmllint $2" "$room/theirs" xmllint --huge "$2" "$room/document.xml"
         cmp "$room/ours" "$room/theirs" && echo "  the same bytes"
@@ -61,7 +61,7 @@ compare() {
     fi
 }
 
-"$here/xades" canon doc="$here/crates/xades_cli/data/a" >/dev/null || exit 1
+"$here/xades" canon doc="$here/crates/xades/data/a" >/dev/null || exit 1
 for kind in plain namespaces; do
     for size in 1000000 16000000; do
         make_document "$kind" "$size" >"$room/document.xml"

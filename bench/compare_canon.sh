@@ -3,8 +3,8 @@
 # comments) and of python3's lxml, where these are installed. It prints each file and form on which they differ, and counts. A file that
 # `xades canon` refuses, as one with a document type declaration, is counted apart. docs/DECISIONS.md explains the kinds of differences.
 here=$(cd "$(dirname "${BASH_SOURCE[0]}")/.." && pwd) || exit 2
-"$here/xades" canon doc="$here/crates/xades_cli/data/a" >/dev/null || exit 1
-python3 - "$here/crates/xades_cli/out/xades_cli" "$@" <<'END'
+"$here/xades" canon doc="$here/crates/xades/data/a" >/dev/null || exit 1
+python3 - "$here/crates/xades/out/xades" "$@" <<'END'
 import shutil, subprocess, sys
 ours, files = sys.argv[1], sys.argv[2:]
 try:

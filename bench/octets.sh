@@ -5,8 +5,8 @@
 here=$(cd "$(dirname "${BASH_SOURCE[0]}")/.." && pwd) || exit 2
 room=$(mktemp -d) || exit 2
 trap 'rm -rf "$room"' EXIT
-"$here/xades" canon doc="$here/crates/xades_cli/data/a" >/dev/null || exit 1
-python3 - "$here/crates/xades_cli/out/xades_cli" "$here/crates/xades_cli/src/tests_of_octets.rt" "$room" <<'END'
+"$here/xades" canon doc="$here/crates/xades/data/a" >/dev/null || exit 1
+python3 - "$here/crates/xades/out/xades" "$here/crates/command_tests/src/octets.rt" "$room" <<'END'
 import os, re, resource, subprocess, sys
 program, tests, room = sys.argv[1:]
 
