@@ -25,7 +25,8 @@ use Rattle.signature_model.proofs.Lists.{not_both, both, neither, each_append, e
 use Rattle.signature_model.proofs.Apart.{Apart, IsNamed, all_apart, named_apart}
 use Rattle.signature_model.proofs.References.{references_stay, references_named, transforms_stay, transforms_stand}
 use Rattle.signature_model.proofs.Covered.{signature_apart}
-use Rattle.signature_model.proofs.PropertyKept.{IsHeld, key_info_stays, method_stays, method_apart}
+use Rattle.signature_model.proofs.PropertyKept.{IsHeld}
+use Rattle.signature_model.proofs.PartsStay.{key_info_stays, method_stays, method_apart}
 use Rattle.signature_model.proofs.ReadTakes.{front_nothing, behind_nothing, map_nothing}
 use Rattle.signature_model.proofs.ItemKept.{put_at}
 use Rattle.signature_model.proofs.Plain.{content_plain}
@@ -322,7 +323,7 @@ module _ (is_whole : DatumKind → List ℕ → Bool) (document added : Nodes) (
   keys_same : key_certificates new signature ≡ key_certificates document signature
   keys_same =
       let keys = key_info_named document signature stands in
-      let d : key_data new signature ≡ key_data document signature = ap (called_in new (ds (codes "X509Data"))) (key_info_stays document added signature place name m.many.setting)
+      let d : key_data new signature ≡ key_data document signature = ap (called_in new (ds (codes "X509Data"))) (key_info_stays document added signature place name m.many.setting.setting)
       ∙ chain_stays document added place name (ds (codes "X509Data")) (ds (codes "KeyInfo")) m.many.setting.setting.place_named m.many.apart.key_info (key_info document signature) keys in
       ap (called_in new (ds (codes "X509Certificate"))) d
       ∙ chain_stays document added place name (ds (codes "X509Certificate")) (ds (codes "X509Data")) m.many.setting.setting.place_named m.many.apart.key_data (key_data document signature)
@@ -375,7 +376,7 @@ module _ (is_whole : DatumKind → List ℕ → Bool) (document added : Nodes) (
         shape = shape_of new signature (record {
           parts = lines.parts_stay document added signature place name b a e ∙ l.parts;
           info = lines.info_line_stays document added signature place name b a e ∙ l.info;
-          form = old.form_same document added signature place D passes stamps_same stamps_inside (method_stays document added signature place name s) (method_apart document added signature place name s) ∙ l.form;
+          form = old.form_same document added signature place D passes stamps_same stamps_inside (method_stays document added signature place name b) (method_apart document added signature place name b) ∙ l.form;
           method = lines.method_line_stays document added signature place name b a e ∙ l.method;
           reference = lines.reference_line_stays document added signature place name b a e ∙ l.reference;
           qualifying = lines.qualifying_line_stays document added signature place name b a e ∙ l.qualifying;

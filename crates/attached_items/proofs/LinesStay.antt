@@ -21,7 +21,7 @@ use Rattle.signature_model.proofs.PropertyKept.{PropertySetting, value_stays, va
 use Rattle.signature_model.proofs.Outer.{qualifying_stays}
 use Rattle.covered_items.proofs.NewHolders.{IsApart}
 use Rattle.covered_items.proofs.SignedPartsStay.{chain_stays, named_in, first_in, first_stays, key_info_named, signed_named, methods_stay, signature_method_stays, cert_stays}
-use Rattle.covered_items.proofs.PartsStay.{info_stays, method_stays, method_apart, key_info_stays, objects_apart, qualifying_objects_stay}
+use Rattle.signature_model.proofs.PartsStay.{info_stays, method_stays, method_apart, key_info_stays, objects_apart, qualifying_objects_stay}
 use Rattle.covered_items.proofs.HoldingStays as words
 
 -- the line on the value, where a property is put in

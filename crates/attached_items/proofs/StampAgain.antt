@@ -8,7 +8,7 @@ use Rattle.signature_model.specs.Spots.{Spot}
 use Rattle.signature_model.specs.Parts.{DatumKind, Token, host}
 use Rattle.signature_model.specs.Fragments.{Stamp, Archive, declaring, content_of, with_item}
 use Rattle.signature_model.specs.Keeping.{TakesItem}
-use Rattle.signature_model.proofs.PropertyKept.{method_stays, method_apart}
+use Rattle.signature_model.proofs.PartsStay.{method_stays, method_apart}
 use Rattle.signature_model.proofs.ItemKept.{put_at}
 use Rattle.signature_model.proofs.Plain.{content_plain}
 use Rattle.covered_items.proofs.StampFragments.{signature_stamp_name, signature_stamp_attributes, archive_stamp_name, archive_stamp_attributes}
@@ -66,7 +66,7 @@ again kind is is_whole document added signature place octets bytes whole one r =
       shape = shape_of new signature (record {
         parts = lines.parts_stay document added signature place name b one.apart one.signed ∙ l.parts;
         info = lines.info_line_stays document added signature place name b one.apart one.signed ∙ l.info;
-        form = stamps.form_again kind is document signature place octets bytes added one l.form (method_stays document added signature place name s) (method_apart document added signature place name s);
+        form = stamps.form_again kind is document signature place octets bytes added one l.form (method_stays document added signature place name b) (method_apart document added signature place name b);
         method = lines.method_line_stays document added signature place name b one.apart one.signed ∙ l.method;
         reference = lines.reference_line_stays document added signature place name b one.apart one.signed ∙ l.reference;
         qualifying = lines.qualifying_line_stays document added signature place name b one.apart one.signed ∙ l.qualifying;

@@ -24,7 +24,8 @@ use Rattle.signature_model.proofs.Standing.{Each}
 use Rattle.signature_model.proofs.Lists.{each_append, each_first, each_map, each_filter, each_flat, flat_same, filter_same}
 use Rattle.signature_model.proofs.Apart.{Apart, called_stay, elements_stay, form_stays}
 use Rattle.signature_model.proofs.ReadTakes.{front_nothing, behind_nothing, map_nothing}
-use Rattle.signature_model.proofs.PropertyKept.{IsHeld, held_apart, method_apart}
+use Rattle.signature_model.proofs.PropertyKept.{IsHeld, held_apart}
+use Rattle.signature_model.proofs.PartsStay.{method_apart}
 use Rattle.covered_items.proofs.NewElements.{one_element, Stands, spot_below, held_stands, elements_stand, child_there}
 use Rattle.covered_items.proofs.StampFragments.{stamp_inner, token_name, method_name, method_attributes, method_read, text_whole}
 use Rattle.covered_items.proofs.NewProperties.{ManyProperties}

@@ -20,7 +20,8 @@ use Rattle.signature_model.proofs.Lists.{each_append, each_first, each_map, each
 use Rattle.signature_model.proofs.Apart.{Apart, IsNamed, called_stay, text_stays, all_apart, named_apart}
 use Rattle.signature_model.proofs.References.{references_stay, references_named, transforms_stay, transforms_stand}
 use Rattle.signature_model.proofs.Covered.{signature_apart}
-use Rattle.signature_model.proofs.PropertyKept.{IsHeld, held_apart, key_info_stays}
+use Rattle.signature_model.proofs.PropertyKept.{IsHeld, held_apart}
+use Rattle.signature_model.proofs.PartsStay.{key_info_stays}
 use Rattle.covered_items.proofs.NewProperties.{ManyProperties}
 use Rattle.covered_items.proofs.NewHolders.{filter_without}
 use Rattle.covered_items.proofs.SignedPartsStay.{chain_stays, named_in, first_in, key_info_named, cert_stays, methods_stay}
@@ -163,7 +164,7 @@ module _ (kind : StampKind) (is : IsStampKind kind) (document : Nodes) (signatur
   keys_same : key_certificates new signature ≡ key_certificates document signature
   keys_same =
       let named = key_info_named document signature one.setting.setting.signature_named.stands in
-      let d : key_data new signature ≡ key_data document signature = ap (called_in new (ds (codes "X509Data"))) (key_info_stays document added signature place one.host_name one.setting)
+      let d : key_data new signature ≡ key_data document signature = ap (called_in new (ds (codes "X509Data"))) (key_info_stays document added signature place one.host_name one.setting.setting)
       ∙ chain_stays document added place one.host_name (ds (codes "X509Data")) (ds (codes "KeyInfo")) one.setting.setting.place_named one.apart.key_info (key_info document signature) named in
       ap (called_in new (ds (codes "X509Certificate"))) d
       ∙ chain_stays document added place one.host_name (ds (codes "X509Certificate")) (ds (codes "X509Data")) one.setting.setting.place_named one.apart.key_data (key_data document signature)

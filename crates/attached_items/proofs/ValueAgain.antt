@@ -1,39 +1,36 @@
 -- A signature that has taken a value has its parts again.
-use Rattle.std.proofs.Common.{◌≡◌, ℕ, suc, Bool, true, false, cond, not, List, [], ◌∷◌, ◌++◌, length, arith, Some, refl, sym, ◌∙◌, ap, subst, codes, append_assoc}
-use Rattle.std.proofs.lemmas.List.{append-nil, length-append}
+use Rattle.std.proofs.Common.{◌≡◌, ℕ, suc, Bool, true, false, cond, not, List, [], ◌∷◌, ◌++◌, length, arith, refl, sym, ◌∙◌, ap, subst, codes}
+use Rattle.std.proofs.lemmas.List.{length-append}
 use Rattle.std.specs.Prelude.{filter, flat_map, drop, map, is_some}
 use Rattle.base64.specs.GeneralPurpose.{IsBytes, encode_of}
 use Rattle.base64.specs.Engines.{standard}
-use Rattle.document_model.specs.Characters.{is_white, is_empty}
 use Rattle.document_model.specs.Names.{Expanded}
-use Rattle.document_model.specs.Tree.{Nodes, Path, Element, Text, Comment, Instruction, no_nodes, ◌⨾◌, below, joined, put_last}
+use Rattle.document_model.specs.Tree.{Nodes, Path, below, put_last}
 use Rattle.signature_model.specs.Vocabulary.{ds, xades}
-use Rattle.signature_model.specs.Base64.{strict}
-use Rattle.signature_model.specs.Spots.{Spot, is_called, emptied_all, held_in, held_at, text_among, text_in, without_white, is_text_alone, elements_in, called, called_in, first, paths}
+use Rattle.signature_model.specs.Spots.{Spot, is_called, held_in, held_at, is_text_alone, elements_in, called, called_in, paths}
 use Rattle.signature_model.specs.Parts as parts
 use Rattle.signature_model.specs.Parts.{DatumKind, Datum, value, method, references, qualifying, signed_properties, unsigned, unsigned_signature, properties, stamps, is_blank, is_signed, octets_in, is_validation_data, values_of, data_of_values, data_of, data_in, key_certificates, key_data, key_info, transforms, certificate_digest, digest_methods, PropertyKind, SignatureStamp, ArchiveStamp, Material, Passed, kind_of, token}
 use Rattle.signature_model.specs.Holding.{misfits, with_stray_text, without_attribute, without_value, without_octets}
 use Rattle.signature_model.specs.Shape.{properties_line, value_line, value_holders, values_line}
 use Rattle.signature_model.specs.Readable.{is_bad, bad_data, HasParts}
-use Rattle.signature_model.specs.Fragments.{Value, text, encoded, content_of, with_item}
+use Rattle.signature_model.specs.Fragments.{Value, encoded, content_of, with_item}
 use Rattle.signature_model.specs.Keeping.{IsSpot, TakesItem}
 use Rattle.signature_model.proofs.Standing.{Each}
-use Rattle.signature_model.proofs.Lists.{each_append, each_first, each_map, each_filter, each_flat, flat_same, filter_same, not_both}
+use Rattle.signature_model.proofs.Lists.{each_append, each_map, each_filter, each_flat, flat_same, filter_same, not_both}
 use Rattle.signature_model.proofs.AtHost.{held_at_host}
-use Rattle.signature_model.proofs.Apart.{Apart, IsNamed, elements_stay, called_stay, all_apart, named_apart}
+use Rattle.signature_model.proofs.Apart.{Apart, IsNamed, elements_stay, all_apart, named_apart}
 use Rattle.signature_model.proofs.References.{references_stay, references_named, transforms_stay, transforms_stand}
-use Rattle.signature_model.proofs.Covered.{Setting, signature_apart}
-use Rattle.signature_model.proofs.PropertyKept.{IsPart, parts_called}
+use Rattle.signature_model.proofs.Covered.{Setting}
+use Rattle.signature_model.proofs.PropertyKept.{IsPart}
 use Rattle.signature_model.proofs.Outer.{qualifying_stays, qualifying_apart, unsigned_stays, unsigned_apart, list_stays}
 use Rattle.signature_model.proofs.Hosts.{InnerNamed, list_inner}
-use Rattle.signature_model.proofs.ReadTakes.{front_nothing}
-use Rattle.signature_model.proofs.ValueKept.{blank_place, places_first, free_at_value}
+use Rattle.signature_model.proofs.ReadTakes.{front_nothing, not_nothing}
 use Rattle.signature_model.proofs.ItemKept.{put_at}
-use Rattle.signature_model.proofs.Plain.{content_plain}
-use Rattle.covered_items.proofs.Base64ReadBack.{spelled_kept, read_back}
 use Rattle.covered_items.proofs.NewHolders.{IsApart, signed_stay}
 use Rattle.covered_items.proofs.SignedPartsStay.{chain_stays, named_in, first_in, key_info_named, signed_named, methods_stay, cert_stays}
-use Rattle.covered_items.proofs.PartsStay.{key_info_stays, method_stays, method_apart}
+use Rattle.signature_model.proofs.PartsStay.{key_info_stays, method_stays, method_apart}
+use Rattle.covered_items.proofs.NewValue as value_in
+use Rattle.covered_items.proofs.NewValue.{alone_behind}
 use Rattle.covered_items.proofs.HoldingStays as words
 use Rattle.covered_items.proofs.Lists.{spots_of, kinds_of, nothing_both, each_of_none}
 use Rattle.covered_items.proofs.PropertiesLine.{HolderSlots, ListSlots}
@@ -46,51 +43,9 @@ use Rattle.signature_model.specs.Octets.{value_octets, octets_at}
 use Rattle.signature_model.specs.Covers.{Signed, stamped_by, stamped}
 use Rattle.attached_items.specs.ReadAgain.{ValueIsCoveredAlone}
 
--- Text that is put behind text.
-
-text_behind : (nodes : Nodes) (cs : List ℕ) → text_among (emptied_all (joined nodes (text cs))) ≡ text_among (emptied_all nodes) ++ cs
-text_behind no_nodes [] = refl
-text_behind no_nodes (c ∷ cs) = append-nil (c ∷ cs)
-text_behind (Element n a i ⨾ nodes) cs = text_behind nodes cs
-text_behind (Comment ds ⨾ nodes) cs = text_behind nodes cs
-text_behind (Instruction target content ⨾ nodes) cs = text_behind nodes cs
-text_behind (Text ds ⨾ next ⨾ nodes) cs = ap (λ more. ds ++ more) (text_behind (next ⨾ nodes) cs) ∙ sym (append_assoc ds (text_among (emptied_all (next ⨾ nodes))) cs)
-text_behind (Text ds ⨾ no_nodes) [] = sym (append-nil (ds ++ []))
-text_behind (Text ds ⨾ no_nodes) (c ∷ cs) = append-nil (ds ++ c ∷ cs) ∙ ap (λ front. front ++ c ∷ cs) (sym (append-nil ds))
-
-alone_behind : (nodes : Nodes) (cs : List ℕ) → is_text_alone (emptied_all nodes) ≡ true → is_text_alone (emptied_all (joined nodes (text cs))) ≡ true
-alone_behind no_nodes [] e = refl
-alone_behind no_nodes (c ∷ cs) e = refl
-alone_behind (Element n a i ⨾ nodes) cs e = absurd (not_both (sym e))
-alone_behind (Comment ds ⨾ nodes) cs e = absurd (not_both (sym e))
-alone_behind (Instruction target content ⨾ nodes) cs e = absurd (not_both (sym e))
-alone_behind (Text ds ⨾ next ⨾ nodes) cs e = alone_behind (next ⨾ nodes) cs e
-alone_behind (Text ds ⨾ no_nodes) [] e = refl
-alone_behind (Text ds ⨾ no_nodes) (c ∷ cs) e = refl
-
-white_both : (xs ys : List ℕ) → without_white (xs ++ ys) ≡ without_white xs ++ without_white ys
-white_both [] ys = refl
-white_both (x ∷ xs) ys = by_bool (not (is_white x)) (white_both xs ys)
-  where
-    by_bool : (b : Bool) → without_white (xs ++ ys) ≡ without_white xs ++ without_white ys
-        → cond b (x ∷ without_white (xs ++ ys)) (without_white (xs ++ ys)) ≡ cond b (x ∷ without_white xs) (without_white xs) ++ without_white ys
-    by_bool true e = ap (λ zs. x ∷ zs) e
-    by_bool false e = e
-
-nothing_of : (xs : List ℕ) → is_empty xs ≡ true → xs ≡ []
-nothing_of [] e = refl
-nothing_of (x ∷ xs) e = absurd (not_both (sym e))
-
 has_alone : (b : Bool) (spot : Spot) → paths (cond (not b) (spot ∷ []) []) ≡ [] → b ≡ true
 has_alone true spot e = refl
-has_alone false spot e = absurd (no_path spot.path e)
-  where
-    no_path : (path : Path) → path ∷ [] ≡ [] → ⊥
-    no_path path e = subst (λ (ps : List Path). IsFull ps) e tt
-      where
-        IsFull : List Path → Type 0
-        IsFull [] = ⊥
-        IsFull (z ∷ zs) = Unit {0}
+has_alone false spot e = absurd (not_nothing spot.path [] e)
 
 module _ (document : Nodes) (signature place : Spot) (octets : List ℕ) (bytes : IsBytes octets) (takes : TakesItem document signature (Value octets))
     (is_place : value document signature ≡ place ∷ []) where
@@ -107,18 +62,10 @@ module _ (document : Nodes) (signature place : Spot) (octets : List ℕ) (bytes 
   stands = takes.is_signature.stands
 
   place_part : IsPart document signature name place
-  place_part =
-      let P : List Spot → Type 0 = λ spots. Each (IsPart document signature name) spots in
-      (subst P is_place (each_first (IsPart document signature name) _ (parts_called document signature name stands))).0
+  place_part = value_in.place_part document signature place octets bytes takes is_place
 
   set : Setting document added signature place name
-  set = record {
-    signature_named = record { stands = stands; named = takes.is_signature.named };
-    place_named = record { stands = place_part.0.stands; named = place_part.1 };
-    other = record { signature = refl; signed_info = refl; method = refl; reference = refl; transforms = refl; transform = refl };
-    no_identifiers = content_plain document signature (Value octets);
-    unreached = free_at_value document signature place (places_first document signature place is_place takes.may) 1 (references document signature) takes.free;
-  }
+  set = value_in.set document signature place octets bytes takes is_place
 
   apart : IsApart name
   apart = record { object = refl; key_info = refl; key_data = refl; key_certificate = refl; signature_method = refl; digest_method = refl; digest_value = refl; signed_properties = refl; signed_signature = refl; signing_certificate = refl; cert = refl; cert_digest = refl; signing_time = refl; signed_data = refl; format = refl; mime = refl }
@@ -127,25 +74,9 @@ module _ (document : Nodes) (signature place : Spot) (octets : List ℕ) (bytes 
   signed = signed_stay document added signature place name set refl refl
 
   signature_is_apart : Apart document place signature
-  signature_is_apart = signature_apart document added signature place name set
+  signature_is_apart = value_in.signature_is_apart document signature place octets bytes takes is_place
 
   -- The value.
-
-  value_new : value new signature ≡ place ∷ []
-  value_new = ap first (called_stay document added place name signature signature_is_apart) ∙ is_place
-
-  text_new : without_white (text_in new place) ≡ encode_of standard octets
-  text_new =
-      let m = place_part.0.stands.element.0 in
-      let blank : without_white (text_among (emptied_all (below m))) ≡ [] =
-      ap (λ nodes. without_white (text_among nodes)) (sym (ap held_in place_part.0.stands.element.1)) ∙ nothing_of _ (blank_place document signature place is_place takes.may) in
-      ap (λ nodes. without_white (text_among nodes)) (held_at_host document added place.path place_part.0.stands.element)
-      ∙ ap without_white (text_behind (below m) (encode_of standard octets))
-      ∙ white_both (text_among (emptied_all (below m))) (encode_of standard octets)
-      ∙ (λ i. blank i ++ spelled_kept octets i)
-
-  octets_new : octets_in new place ≡ Some octets
-  octets_new = ap strict (text_new ∙ sym (spelled_kept octets)) ∙ read_back octets bytes
 
   value_again : value_line document signature ≡ [] → value_line new signature ≡ []
   value_again e =
@@ -155,8 +86,9 @@ module _ (document : Nodes) (signature place : Spot) (octets : List ℕ) (bytes 
       let alone : is_text_alone (held_at new place.path) ≡ true =
       ap is_text_alone (held_at_host document added place.path place_part.0.stands.element)
       ∙ alone_behind (below m) (encode_of standard octets) (sym (ap (λ nodes. is_text_alone (held_in nodes)) place_part.0.stands.element.1) ∙ was_alone) in
-      ap (without_octets new) value_new
-      ∙ (λ i. paths (cond (not (alone i)) (place ∷ []) []) ++ paths (cond (not (is_some (octets_new i))) (place ∷ []) []))
+      let read = value_in.octets_new document signature place octets bytes takes is_place in
+      ap (without_octets new) (value_in.value_new document signature place octets bytes takes is_place)
+      ∙ (λ i. paths (cond (not (alone i)) (place ∷ []) []) ++ paths (cond (not (is_some (read i))) (place ∷ []) []))
 
   -- What is around the properties.
 

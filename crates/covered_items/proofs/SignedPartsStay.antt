@@ -16,7 +16,7 @@ use Rattle.signature_model.proofs.Covered.{Setting}
 use Rattle.signature_model.proofs.PropertyKept.{octets_or_none_stay}
 use Rattle.signature_model.proofs.Hosts.{InnerNamed, qualifying_inner}
 use Rattle.covered_items.proofs.NewHolders.{IsApart}
-use Rattle.covered_items.proofs.PartsStay.{info_stays, key_info_stays}
+use Rattle.signature_model.proofs.PartsStay.{info_stays, key_info_stays}
 
 -- elements with a name that isn't the host's
 pub chain_stays : (document added : Nodes) (place : Spot) (host_name x y : Expanded) → IsNamed document host_name place → same_expanded y host_name ≡ false
