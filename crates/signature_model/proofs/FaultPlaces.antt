@@ -1,7 +1,6 @@
 -- The place of a fault in base64 is no greater than the document and the octets that are handed in.
-use Rattle.std.proofs.Common.{◌≡◌, ℕ, zero, suc, ◌+◌, ◌≤◌, Bool, true, false, cond, not, List, [], ◌∷◌, ◌++◌, length, Option, Some, None, refl, sym, ◌∙◌, subst, length-append, arith}
-use Rattle.std.specs.Prelude.{option_and_then, is_none, filter}
-use Rattle.std.specs.Option.{option_map_or}
+use Rattle.std.proofs.Common.{◌≡◌, ℕ, suc, ◌+◌, ◌≤◌, Bool, true, false, not, List, [], ◌∷◌, ◌++◌, length, Option, Some, None, refl, subst, length-append, arith}
+use Rattle.std.specs.Prelude.{option_and_then, is_none}
 use Rattle.document_model.specs.Characters.{is_white}
 use Rattle.document_model.specs.Documents.{document_of}
 use Rattle.document_model.specs.Items.{or_else}
@@ -11,7 +10,7 @@ use Rattle.document_model.proofs.Joins.{by_test, by_option}
 use Rattle.signature_model.specs.Spots.{Spot, without_white}
 use Rattle.signature_model.specs.Parts.{uri}
 use Rattle.signature_model.specs.Base64.{strict, begins_strict, longest, fault_in}
-use Rattle.signature_model.specs.Chains.{Handed, Place, Document, Named, External, place, Made, NodesAlone, InForm, Decoded, Chain, chain, texts, base64_text, node_set, handed_in, decoded_text, whole_text, Fault, TargetMissing, TargetTwice, NoChain, DigestName, NotHandedIn, NotBase64, when, target_missing, target_twice, no_chain, no_digest, not_handed_in, not_base64, not_base64_text, first_of, first_code, fault}
+use Rattle.signature_model.specs.Chains.{Handed, Place, Document, Named, External, place, Made, NodesAlone, InForm, Decoded, Chain, chain, texts, base64_text, node_set, handed_in, decoded_text, whole_text, Fault, TargetMissing, TargetTwice, NoChain, DigestName, NotHandedIn, NotBase64, when, target_missing, target_twice, no_chain, no_digest, not_handed_in, not_base64, not_base64_text, first_of, fault}
 use Rattle.signature_model.specs.Agreeing.{PlacesAreWithin}
 use Rattle.signature_model.proofs.TextLengths.{document_texts, part_texts}
 

@@ -16,7 +16,8 @@ use Rattle.signature_model.proofs.Apart.{Apart, IsNamed, named_apart, called_in_
 use Rattle.signature_model.proofs.References.{IsOther}
 use Rattle.signature_model.proofs.Covered.{Below, IsProperty, free_at_host}
 use Rattle.signature_model.proofs.AtHost.{elements_at_host}
-use Rattle.signature_model.proofs.PropertyKept.{PropertySetting, PropertiesGrow, IsPart, parts_called, objects_apart, qualifying_objects_stay, setting_keeps}
+use Rattle.signature_model.proofs.PropertyKept.{PropertySetting, PropertiesGrow, IsPart, parts_called, setting_keeps}
+use Rattle.signature_model.proofs.PartsStay.{objects_apart, qualifying_objects_stay}
 
 -- Elements below the Object of the properties.
 
@@ -127,11 +128,11 @@ list_grows document added signature place s e =
     let name : Expanded = xades (codes "UnsignedSignatureProperties") in
     let stands = s.setting.signature_named.stands in
     let q : qualifying new signature ≡ qualifying document signature =
-    ap (λ spots. first (called_in new (xades (codes "QualifyingProperties")) (first spots))) (qualifying_objects_stay document added signature place name s)
+    ap (λ spots. first (called_in new (xades (codes "QualifyingProperties")) (first spots))) (qualifying_objects_stay document added signature place name s.setting refl)
     ∙ ap first (called_in_stay document added place (xades (codes "QualifyingProperties")) (first (qualifying_objects document signature))
     (each_first (Apart document place) _
     (each_map (λ spot. Apart document place spot × (is_qualifying document spot ≡ true)) (Apart document place) _ (λ spot a. a.0)
-    (each_filter (Apart document place) (is_qualifying document) (objects document signature) (objects_apart document added signature place name s))))) in
+    (each_filter (Apart document place) (is_qualifying document) (objects document signature) (objects_apart document added signature place name s.setting refl))))) in
     let q_apart : Each (Apart document place) (qualifying document signature) =
     each_map (InnerNamed document signature (xades (codes "QualifyingProperties"))) (Apart document place) _
     (λ spot i. named_apart document place (xades (codes "QualifyingProperties")) name s.setting.place_named refl spot i.0) (qualifying_inner document signature stands) in

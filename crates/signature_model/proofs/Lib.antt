@@ -6,6 +6,7 @@ pub mod References
 pub mod Covered
 pub mod ValueKept
 pub mod AtHost
+pub mod PartsStay
 pub mod PropertyKept
 pub mod Hosts
 pub mod StandsAgain

@@ -1,5 +1,5 @@
 -- The elements around the properties stay, and so does the host where content is put into a list of properties or into the value.
-use Rattle.std.proofs.Common.{◌≡◌, ℕ, suc, Bool, true, false, cond, not, List, [], ◌∷◌, ◌++◌, Some, None, refl, sym, ◌∙◌, ap, codes}
+use Rattle.std.proofs.Common.{◌≡◌, ℕ, suc, Bool, true, false, cond, List, [], ◌∷◌, ◌++◌, Some, None, refl, sym, ◌∙◌, ap, codes}
 use Rattle.std.specs.Prelude.{filter}
 use Rattle.std.specs.List.{list_any}
 use Rattle.document_model.specs.Characters.{is_empty}
@@ -15,6 +15,7 @@ use Rattle.signature_model.proofs.Lists.{neither, each_filter, each_map, each_fi
 use Rattle.signature_model.proofs.Apart.{Apart, IsNamed, called_stay, called_in_stay, text_stays, called_named, called_in_named, all_apart}
 use Rattle.signature_model.proofs.References.{references_stay, references_named}
 use Rattle.signature_model.proofs.Covered.{Setting, signature_apart, cond_none}
+use Rattle.signature_model.proofs.PartsStay.{objects_apart, qualifying_objects_stay}
 use Rattle.signature_model.proofs.FreeAgain.{node_set_stays, free_where_places_stay}
 use Rattle.std.specs.Option.{option_map_or}
 
@@ -23,20 +24,6 @@ pub record IsInner (host_name : Expanded) : Type 0 where
   pub object : same_expanded (ds (codes "Object")) host_name ≡ false
   pub qualifying : same_expanded (xades (codes "QualifyingProperties")) host_name ≡ false
   pub unsigned : same_expanded (xades (codes "UnsignedProperties")) host_name ≡ false
-
-objects_apart : (document added : Nodes) (signature place : Spot) (host_name : Expanded) → Setting document added signature place host_name → same_expanded (ds (codes "Object")) host_name ≡ false
-    → Each (Apart document place) (objects document signature)
-objects_apart document added signature place host_name s d =
-    all_apart document place (ds (codes "Object")) host_name s.place_named d _ (called_named document (ds (codes "Object")) signature s.signature_named.stands)
-
-objects_stay : (document added : Nodes) (signature place : Spot) (host_name : Expanded) → Setting document added signature place host_name → same_expanded (ds (codes "Object")) host_name ≡ false
-    → qualifying_objects (put_last added place.path document) signature ≡ qualifying_objects document signature
-objects_stay document added signature place host_name s d =
-    let new : Nodes = put_last added place.path document in
-    ap (filter (is_qualifying new)) (called_stay document added place (ds (codes "Object")) signature (signature_apart document added signature place host_name s))
-    ∙ filter_same (Apart document place) (is_qualifying new) (is_qualifying document) (objects document signature)
-    (λ object a. ap (λ spots. not (is_empty spots)) (called_stay document added place (xades (codes "QualifyingProperties")) object a))
-    (objects_apart document added signature place host_name s d)
 
 first_objects_apart : (document added : Nodes) (signature place : Spot) (host_name : Expanded) → Setting document added signature place host_name → same_expanded (ds (codes "Object")) host_name ≡ false
     → Each (Apart document place) (first (qualifying_objects document signature))
@@ -48,7 +35,7 @@ first_objects_apart document added signature place host_name s d =
 pub qualifying_stays : (document added : Nodes) (signature place : Spot) (host_name : Expanded) → Setting document added signature place host_name → same_expanded (ds (codes "Object")) host_name ≡ false
     → qualifying (put_last added place.path document) signature ≡ qualifying document signature
 qualifying_stays document added signature place host_name s d =
-    ap (λ spots. first (called_in (put_last added place.path document) (xades (codes "QualifyingProperties")) (first spots))) (objects_stay document added signature place host_name s d)
+    ap (λ spots. first (called_in (put_last added place.path document) (xades (codes "QualifyingProperties")) (first spots))) (qualifying_objects_stay document added signature place host_name s d)
     ∙ ap first (called_in_stay document added place (xades (codes "QualifyingProperties")) (first (qualifying_objects document signature))
     (first_objects_apart document added signature place host_name s d))
 

@@ -11,7 +11,7 @@ use Rattle.document_model.specs.NodeSets.{subtree, is_within}
 use Rattle.document_model.specs.Canonical.{Form}
 use Rattle.document_model.proofs.Kept.{keeps_texts}
 use Rattle.signature_model.specs.Vocabulary.{ds, xades}
-use Rattle.signature_model.specs.Spots.{Spot, is_called, elements_in, called, called_in, first, without_white}
+use Rattle.signature_model.specs.Spots.{Spot, is_called, elements_in, called, first, without_white}
 use Rattle.signature_model.specs.Base64.{skipping}
 use Rattle.signature_model.specs.Parts.{signed_info, value, key_info, objects, method, references, is_qualifying, qualifying_objects, other_objects, qualifying, unsigned, unsigned_signature, properties, host, PropertyKind, SignatureStamp, ArchiveStamp, Material, Passed, kind_of, stamp_method, stamp_form, plain_form, form_or, form_in, octets_or_none, is_blank, is_signed, token_elements, token}
 use Rattle.signature_model.specs.Parts as parts
@@ -21,8 +21,9 @@ use Rattle.signature_model.specs.Covers.{Entry, Signed, digested, stamped_by, st
 use Rattle.signature_model.specs.Keeping.{IsSpot, GoesOn}
 use Rattle.signature_model.proofs.Standing.{Each, IsChild, children_stand}
 use Rattle.signature_model.proofs.Lists.{not_both, each_filter, each_append, each_map, each_first, flat_same, filter_same, any_same, not_within_holder, not_within_other}
-use Rattle.signature_model.proofs.Apart.{Apart, IsNamed, other_path, same_tags, called_stay, called_in_stay, text_stays, form_stays, called_named, called_in_named, named_stand, all_apart}
-use Rattle.signature_model.proofs.References.{whole_or_element, signed_info_stays, signed_info_named, references_stay, reference_stays}
+use Rattle.signature_model.proofs.Apart.{Apart, IsNamed, other_path, same_tags, called_stay, text_stays, form_stays, called_named, all_apart}
+use Rattle.signature_model.proofs.References.{whole_or_element, references_stay, reference_stays}
+use Rattle.signature_model.proofs.PartsStay.{objects_apart, key_info_stays, info_stays, method_stays, method_apart}
 use Rattle.signature_model.proofs.Covered.{Below, IsProperty, Setting, Unreached, unreached_references, signature_apart, all_digested_stay}
 
 -- Texts of elements that aren't around the host.
@@ -108,23 +109,9 @@ pub record PropertySetting (document added : Nodes) (signature place : Spot) (ho
 
 -- Objects.
 
-pub objects_apart : (document added : Nodes) (signature place : Spot) (host_name : Expanded) → PropertySetting document added signature place host_name
-    → Each (Apart document place) (objects document signature)
-objects_apart document added signature place host_name s =
-    all_apart document place (ds (codes "Object")) host_name s.setting.place_named s.names.object _
-    (called_named document (ds (codes "Object")) signature s.setting.signature_named.stands)
-
 qualifying_stays : (document added : Nodes) (place object : Spot) → Apart document place object → is_qualifying (put_last added place.path document) object ≡ is_qualifying document object
 qualifying_stays document added place object a =
     ap (λ spots. not (is_empty spots)) (called_stay document added place (xades (codes "QualifyingProperties")) object a)
-
-pub qualifying_objects_stay : (document added : Nodes) (signature place : Spot) (host_name : Expanded) → PropertySetting document added signature place host_name
-    → qualifying_objects (put_last added place.path document) signature ≡ qualifying_objects document signature
-qualifying_objects_stay document added signature place host_name s =
-    let new : Nodes = put_last added place.path document in
-    ap (filter (is_qualifying new)) (called_stay document added place (ds (codes "Object")) signature (signature_apart document added signature place host_name s.setting))
-    ∙ filter_same (Apart document place) (is_qualifying new) (is_qualifying document) (objects document signature) (qualifying_stays document added place)
-    (objects_apart document added signature place host_name s)
 
 other_objects_stay : (document added : Nodes) (signature place : Spot) (host_name : Expanded) → PropertySetting document added signature place host_name
     → other_objects (put_last added place.path document) signature ≡ other_objects document signature
@@ -133,7 +120,7 @@ other_objects_stay document added signature place host_name s =
     ap (filter (λ object. not (is_qualifying new object))) (called_stay document added place (ds (codes "Object")) signature (signature_apart document added signature place host_name s.setting))
     ∙ filter_same (Apart document place) (λ object. not (is_qualifying new object)) (λ object. not (is_qualifying document object)) (objects document signature)
     (λ object a. ap not (qualifying_stays document added place object a))
-    (objects_apart document added signature place host_name s)
+    (objects_apart document added signature place host_name s.setting s.names.object)
 
 -- Forms and base64 of first elements.
 
@@ -162,11 +149,6 @@ pub value_stays : (document added : Nodes) (signature place : Spot) (host_name :
 value_stays document added signature place host_name s =
     ap first (called_stay document added place (ds (codes "SignatureValue")) signature (signature_apart document added signature place host_name s.setting))
 
-pub key_info_stays : (document added : Nodes) (signature place : Spot) (host_name : Expanded) → PropertySetting document added signature place host_name
-    → key_info (put_last added place.path document) signature ≡ key_info document signature
-key_info_stays document added signature place host_name s =
-    ap first (called_stay document added place (ds (codes "KeyInfo")) signature (signature_apart document added signature place host_name s.setting))
-
 pub blank_stays : (document added : Nodes) (place spot : Spot) → Apart document place spot → is_blank (put_last added place.path document) spot ≡ is_blank document spot
 blank_stays document added place spot a = ap (λ text. is_empty (without_white text)) (text_stays document added place spot a)
 
@@ -184,28 +166,7 @@ value_bytes_stay document added signature place host_name s =
     ap (octets_or_none (put_last added place.path document)) (value_stays document added signature place host_name s)
     ∙ octets_or_none_stay document added place (value document signature) (value_apart document added signature place host_name s)
 
--- SignedInfo and its method.
-
-pub info_stays : (document added : Nodes) (signature place : Spot) (host_name : Expanded) → PropertySetting document added signature place host_name
-    → signed_info (put_last added place.path document) signature ≡ signed_info document signature
-info_stays document added signature place host_name s = signed_info_stays document added place signature (signature_apart document added signature place host_name s.setting)
-
-pub method_stays : (document added : Nodes) (signature place : Spot) (host_name : Expanded) → PropertySetting document added signature place host_name
-    → method (put_last added place.path document) signature ≡ method document signature
-method_stays document added signature place host_name s =
-    let new : Nodes = put_last added place.path document in
-    ap (λ infos. first (called_in new (ds (codes "CanonicalizationMethod")) infos)) (info_stays document added signature place host_name s)
-    ∙ ap first (called_in_stay document added place (ds (codes "CanonicalizationMethod")) (signed_info document signature)
-    (all_apart document place (ds (codes "SignedInfo")) host_name s.setting.place_named s.setting.other.signed_info _
-    (signed_info_named document signature s.setting.signature_named.stands)))
-
-pub method_apart : (document added : Nodes) (signature place : Spot) (host_name : Expanded) → PropertySetting document added signature place host_name
-    → Each (Apart document place) (method document signature)
-method_apart document added signature place host_name s =
-    all_apart document place (ds (codes "CanonicalizationMethod")) host_name s.setting.place_named s.setting.other.method _
-    (each_first (IsNamed document (ds (codes "CanonicalizationMethod"))) _
-    (called_in_named document (ds (codes "CanonicalizationMethod")) (signed_info document signature)
-    (named_stand document (ds (codes "SignedInfo")) _ (signed_info_named document signature s.setting.signature_named.stands))))
+-- Texts of parts.
 
 part_texts_stay : (form : Form) (document added : Nodes) (signature place : Spot) (host_name : Expanded) → PropertySetting document added signature place host_name
     → (spots : List Spot) → Each (Beside document place) spots → joined_octets form (put_last added place.path document) spots ≡ joined_octets form document spots
@@ -224,10 +185,10 @@ pub signed_octets_stay : (document added : Nodes) (signature place : Spot) (host
     → value_octets (put_last added place.path document) signature ≡ value_octets document signature
 signed_octets_stay document added signature place host_name s =
     let new : Nodes = put_last added place.path document in
-    let infos = info_stays document added signature place host_name s in
-    let methods = method_stays document added signature place host_name s in
+    let infos = info_stays document added signature place host_name s.setting in
+    let methods = method_stays document added signature place host_name s.setting in
     (λ i. joined_octets (form_or plain_form new (methods i)) new (infos i))
-    ∙ ap (λ form. joined_octets form new (signed_info document signature)) (form_or_stays plain_form document added place (method document signature) (method_apart document added signature place host_name s))
+    ∙ ap (λ form. joined_octets form new (signed_info document signature)) (form_or_stays plain_form document added place (method document signature) (method_apart document added signature place host_name s.setting))
     ∙ part_texts_stay (form_or plain_form document (method document signature)) document added signature place host_name s (signed_info document signature) (info_beside document added signature place host_name s)
 
 -- Stamps.
@@ -242,9 +203,9 @@ archive_stays form handed document added signature place host_name s before b =
     ∙ flat_same (Unreached document signature place) (reference_octets form handed new signature.path) (reference_octets form handed document signature.path) (references document signature)
     (λ reference u. reference_stays form handed document added place host_name s.setting.place_named s.setting.other s.setting.no_identifiers signature.path reference u.0 u.1)
     (unreached_references document added signature place host_name s.setting) in
-    let infos = info_stays document added signature place host_name s in
+    let infos = info_stays document added signature place host_name s.setting in
     let values = value_stays document added signature place host_name s in
-    let keys = key_info_stays document added signature place host_name s in
+    let keys = key_info_stays document added signature place host_name s.setting in
     let three : joined_octets form new (signed_info new signature ++ value new signature ++ key_info new signature)
     ≡ joined_octets form document (signed_info document signature ++ value document signature ++ key_info document signature) =
     (λ i. joined_octets form new (infos i ++ values i ++ keys i))

@@ -1,21 +1,20 @@
 -- The characters of a document's texts are no more than its bytes, so the place of a fault in base64 is no greater than what is read.
-use Rattle.std.proofs.Common.{◌≡◌, ℕ, zero, suc, ◌+◌, ◌-◌, ◌≤◌, Bool, true, false, cond, ◌&&◌, ◌||◌, not, List, [], ◌∷◌, ◌++◌, length, take, drop, Option, Some, None, refl, sym, ◌∙◌, ap, subst, append_assoc, length-append, arith, nat_eq, codes}
+use Rattle.std.proofs.Common.{◌≡◌, ℕ, zero, suc, ◌+◌, ◌-◌, ◌≤◌, Bool, true, false, cond, ◌||◌, not, List, [], ◌∷◌, ◌++◌, length, take, drop, Option, Some, None, refl, sym, ◌∙◌, ap, subst, append_assoc, length-append, arith, nat_eq, codes}
 use Rattle.std.proofs.lemmas.Bool.{and_parts}
 use Rattle.std.proofs.lemmas.List.{append-nil, length-take, length-drop}
 use Rattle.std.proofs.lemmas.Option.{none-some, same_Some}
 use Rattle.std.proofs.lemmas.Str.{length-le-encodes, encodes-chars, IsUtf8-from_is_utf8}
-use Rattle.std.specs.Prelude.{option_and_then, option_map, filter, flat_map}
+use Rattle.std.specs.Prelude.{option_map}
 use Rattle.std.specs.List.{list_all}
-use Rattle.std.specs.Option.{option_map_or}
 use Rattle.std.specs.Str.{chars, is_utf8}
 use Rattle.document_model.specs.Characters.{characters, is_char, is_white, continues_name, span, between, begins_with, with_line_ends}
 use Rattle.document_model.specs.Names.{Name, name_of}
-use Rattle.document_model.specs.Items.{Attribute, Item, declaration, start_tag, empty_tag, end_tag, character, reference, cdata, comment, instruction, Piece, Kind, CommentKind, CdataKind, InstructionKind, EndTagKind, TagKind, ReferenceKind, CharacterKind, kind_at, cut, item_of, piece_at, when, or_else, ◌>>=◌, referred, pairs_of, most_attributes, each_of, attribute_of, without_space_behind, declaration_of, instruction_of, tag_of, character_of}
+use Rattle.document_model.specs.Items.{Attribute, Item, declaration, start_tag, empty_tag, end_tag, character, reference, cdata, comment, instruction, Piece, Kind, CommentKind, CdataKind, InstructionKind, EndTagKind, TagKind, ReferenceKind, CharacterKind, kind_at, cut, item_of, piece_at, or_else, ◌>>=◌, referred, pairs_of, most_attributes, each_of, attribute_of, without_space_behind, declaration_of, instruction_of, tag_of, character_of}
 use Rattle.document_model.specs.Tree.{Node, Nodes, Path, Element, Text, Comment, Instruction, no_nodes, ◌⨾◌, nth, below, descend, node_at, joined, in_last, in_nodes_of, grown, depth, added_at, added_by, tree_after}
 use Rattle.document_model.specs.Scopes.{Tag, elements_around}
 use Rattle.document_model.specs.NodeSets.{NodeSet, kept, kept_node, apex_alone, part_from, part, has_in}
 use Rattle.document_model.specs.Documents.{Limits, Run, limits, legal, legal_within, run_of, stopped, document_of}
-use Rattle.document_model.proofs.Joins.{bind_some, when_some, by_test, by_option, cut_joins, legal_within_joins}
+use Rattle.document_model.proofs.Joins.{bind_some, when_some, by_test, by_option, legal_within_joins}
 use Rattle.signature_model.specs.Chains.{texts, text_below}
 
 -- Trees.

@@ -1,0 +1,13 @@
+pub mod LinesStay
+pub mod ReadAs
+pub mod DeepSpots
+pub mod Inside
+pub mod OldProperties
+pub mod StampLines
+pub mod StampValues
+pub mod StampAgain
+pub mod DataHolders
+pub mod DataAgain
+pub mod ValueAgain
+pub mod PlacesAreElements
+pub mod AllItems

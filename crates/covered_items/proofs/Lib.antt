@@ -1,0 +1,14 @@
+pub mod NewElements
+pub mod Base64ReadBack
+pub mod StampFragments
+pub mod NewHolders
+pub mod SignedPartsStay
+pub mod Lists
+pub mod HoldingStays
+pub mod PropertiesLine
+pub mod NewProperties
+pub mod StampsAdded
+pub mod NewValue
+pub mod ValueAdded
+pub mod DataCovers
+pub mod ItemCovers
