@@ -1,4 +1,5 @@
 pub mod Good
 pub mod Grammar
+pub mod Keyed
 pub mod Patterns
 pub mod TextForms
