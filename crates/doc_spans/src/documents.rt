@@ -46,7 +46,8 @@ pub struct Doc<'a> {
 impl<'a> Doc<'a> {
     ghost use Rattle.doc_spans.specs.Rest.{rest};
     ghost use Rattle.doc_spans.specs.Shown.{kind_of, outer_path};
-    ghost use Rattle.doc_spans.specs.Seen.{Has, NameBelow, bytes_in, shown_in, path_in, place_in, node_in, name_in, text_in, attributes_in, tag_of};
+    ghost use Rattle.doc_spans.specs.Roots.{IsFirstElement};
+    ghost use Rattle.doc_spans.specs.Seen.{Has, NameBelow, bytes_in, document_in, shown_in, path_in, place_in, node_in, name_in, text_in, attributes_in, tag_of};
 
     /// A document by its bytes and their tree.
     pub fn of(bytes: &'a [u8], tree: &'a Tree) -> Doc<'a>
@@ -69,6 +70,7 @@ impl<'a> Doc<'a> {
         ensures has { Has self.entry result }
         ensures element { option_map kind_of (node_in self.entry result) ≡ Some Kind.Element }
         ensures top { outer_path (path_in self.entry result) ≡ [] }
+        ensures first { IsFirstElement (path_in self.entry result) (document_in self.entry) }
     {
         for node in self.top() {
             match self.kind(node) {

@@ -21,5 +21,5 @@ pub use externals::Externals;
 pub use faults::base64_fault;
 pub use handing::handed_to;
 pub use octets::octets_of;
-pub use places::{Place, place_of, uri_of};
-pub use references::{Reference, is_reached, node_set_of};
+pub use places::{Place, place_named, place_of, uri_of};
+pub use references::{Reference, is_reached, node_set_of, target_set};

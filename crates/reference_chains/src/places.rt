@@ -68,8 +68,8 @@ pub fn place_of(
     Ok(place_named(identifiers, uri.as_str()))
 }
 
-// What a URI names.
-fn place_named(identifiers: &Identifiers, uri: &str) -> Place
+/// What a URI names, by the identifiers of the document. An identifier is looked up once; no memory is taken.
+pub fn place_named(identifiers: &Identifiers, uri: &str) -> Place
     ensures found { (doc : Doc) → AreOf doc identifiers.now → found_in doc result ≡ found (document_in doc) (place_named (chars uri.now)) }
     ensures has { (doc : Doc) → AreOf doc identifiers.now → HasPlace doc result }
 {

@@ -77,8 +77,8 @@ fn less_taken<'a>(set: NodeSet<'a>, signature: NodeId, enveloped: bool) -> NodeS
     }
 }
 
-// The nodes of a target, where it is the document or one element.
-fn target_set<'a>(doc: Doc<'a>, place: Place) -> Option<NodeSet<'a>>
+/// The nodes of a target, without comments, where it is the document or one element (XML Signature 1.1, section 4.4.3.3).
+pub fn target_set<'a>(doc: Doc<'a>, place: Place) -> Option<NodeSet<'a>>
     requires { HasPlace doc place }
     ensures set { option_map set_in result ≡ set_found (found_in doc.entry place) }
     ensures doc { IfSome result (λ set. doc_in set ≡ doc.entry) }

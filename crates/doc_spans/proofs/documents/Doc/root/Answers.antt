@@ -18,3 +18,10 @@ loop-node-preserved c =
 
 pub unreachable-requires : goal.unreachable-requires
 unreachable-requires c = found_root c.args.self (length c.loop-node.yielded) _ c.in-None.ensures.steps.0 c.loop-node.invariant.2 c.loop-node.invariant.3
+
+pub returns-in-Element-clause-first : goal.returns-in-Element-clause-first
+returns-in-Element-clause-first c =
+    let i = length c.loop-node.yielded in
+    let R : List ℕ → Type 0 = NameBelow c.args.self [] i in
+    let next = next_child c.args.self [] i c.in-Some.node.0 _ (subst R c.in-Some.ensures.steps c.loop-node.invariant.2) in
+    (i, next.at, c.loop-node.invariant.3)
