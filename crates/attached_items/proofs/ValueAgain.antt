@@ -32,7 +32,8 @@ use Rattle.signature_model.proofs.PartsStay.{key_info_stays, method_stays, metho
 use Rattle.covered_items.proofs.NewValue as value_in
 use Rattle.covered_items.proofs.NewValue.{alone_behind}
 use Rattle.covered_items.proofs.HoldingStays as words
-use Rattle.covered_items.proofs.Lists.{spots_of, kinds_of, nothing_both, each_of_none}
+use Rattle.covered_items.proofs.Lists.{spots_of, kinds_of, each_of_none}
+use Rattle.signature_model.proofs.Plain.{none_and}
 use Rattle.covered_items.proofs.PropertiesLine.{HolderSlots, ListSlots}
 use Rattle.attached_items.proofs.ReadAs.{IsReadAs, read_as, reads, lines_of, shape_of}
 use Rattle.attached_items.proofs.LinesStay as lines
@@ -279,7 +280,7 @@ value_has_parts is_whole document signature octets bytes takes has =
 no_stamps : (handed : Handed) (d : Nodes) (signature : Spot) (before spots : List Spot) → Each (λ spot. parts.is_stamp spot ≡ false) spots → stamped handed d signature before spots ≡ []
 no_stamps handed d signature before [] h = refl
 no_stamps handed d signature before (property ∷ spots) h =
-    nothing_both _ _ (by_kind (kind_of property) (token d property) (octets_at handed d signature before property) h.0) (no_stamps handed d signature (before ++ property ∷ []) spots h.1)
+    none_and _ _ (by_kind (kind_of property) (token d property) (octets_at handed d signature before property) h.0) (no_stamps handed d signature (before ++ property ∷ []) spots h.1)
   where
     by_kind : (kind : PropertyKind) (token octets : List ℕ) → parts.is_stamp_kind kind ≡ false → stamped_by kind token octets ≡ []
     by_kind SignatureStamp token octets e = absurd (not_both e)

@@ -32,7 +32,7 @@ pub record Beside (document : Nodes) (place spot : Spot) : Type 0 where
   pub stands : IsSpot document spot
   pub beside : is_within spot.path place.path ≡ false
 
-off : (a b c : Bool) → a ≡ false → (a && b && c) ≡ false
+pub off : (a b c : Bool) → a ≡ false → (a && b && c) ≡ false
 off a b c e = rw e refl
 
 subtree_stays : (form : Form) (document added : Nodes) (place : Spot) → IsSpot document place → (spot : Spot) → Beside document place spot
@@ -79,7 +79,7 @@ named_beside document signature place b name d spot c = child_beside document si
 same_qualifying : (document : Nodes) (a b : Spot) → a.path ≡ b.path → a.tags ≡ b.tags → is_qualifying document a ≡ is_qualifying document b
 same_qualifying document a b p t = λ i. is_qualifying document (record { path = p i; tags = t i })
 
-negated : (b : Bool) → not b ≡ true → b ≡ false
+pub negated : (b : Bool) → not b ≡ true → b ≡ false
 negated true e = absurd (not_both (sym e))
 negated false e = refl
 

@@ -99,12 +99,12 @@ pub is_read : (a : Answer) (spot : Spot) → a ≡ Read spot → IsRead a
 is_read a spot e = subst IsRead (sym e) tt
 
 -- what is known of a signature that is read
-abbrev Passed : Spot → Spot → Option ShapeFault → Type 0
-Passed s signature fault = (s ≡ signature) × (fault ≡ None)
+abbrev pub Passed : Spot → Spot → Option ShapeFault → Option Path → Option Path → Type 0
+Passed s signature fault place next = (s ≡ signature) × (fault ≡ None) × (place ≡ None) × (next ≡ None)
 
-passed : (s signature : Spot) (fault : Option ShapeFault) (place next : Option Path)
-    → by_shape (by_include (by_data s next) place) fault ≡ Read signature → Passed s signature fault
-passed s signature None None None e = (ap (spot_or s) e, refl)
+pub passed : (s signature : Spot) (fault : Option ShapeFault) (place next : Option Path)
+    → by_shape (by_include (by_data s next) place) fault ≡ Read signature → Passed s signature fault place next
+passed s signature None None None e = (ap (spot_or s) e, refl, refl, refl)
 passed s signature None None (Some next) e = absurd (is_read (PropertyData next) signature e)
 passed s signature None (Some place) next e = absurd (is_read (Include place) signature e)
 passed s signature (Some fault) place next e = absurd (is_read (Shape fault.place fault.what) signature e)
