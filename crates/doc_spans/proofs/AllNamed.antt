@@ -79,7 +79,7 @@ abbrev pub Has : List Path → Path → Type 0
 Has ps path = (k : ℕ) × (slice_get ps k ≡ Some path)
 
 -- the path of a node of the new tree was there, or is that of the item
-new_or_old : (before : List Item) (item : Item) (path : Path) → Follow before → Fits before item → IsNode (tree_after (item ∷ before)) path
+pub new_or_old : (before : List Item) (item : Item) (path : Path) → Follow before → Fits before item → IsNode (tree_after (item ∷ before)) path
     → IsNode (tree_after before) path ⊎ ((path ≡ path_of before item) × (begins_node before item ≡ true))
 new_or_old before item path h f is = elim (adds (depth before) item) [
   | inl none_added ↦ inl (is.0, sym (ap (λ t. node_at t path) (ap (λ x. grown (depth before) x (tree_after before)) none_added ∙ grown_none (depth before) (tree_after before))) ∙ is.1)

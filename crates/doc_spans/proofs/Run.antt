@@ -61,7 +61,7 @@ begins (end_tag name ∷ []) e = refl
 begins (start_tag name attributes ∷ []) e = cc
 begins (item ∷ next ∷ before) e = absurd (one_character (is_character byte_order_mark (item ∷ next ∷ before)) e)
 
-fits : (before : List Item) (item : Item) → may_follow before item ≡ true → Fits before item
+pub fits : (before : List Item) (item : Item) → may_follow before item ≡ true → Fits before item
 fits before declaration e = begins before e
 fits before (start_tag name attributes) e = tt
 fits before (empty_tag name attributes) e = tt

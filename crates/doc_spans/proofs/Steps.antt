@@ -8,7 +8,8 @@ use Rattle.document_model.specs.Tree.{Node, Nodes, Path, Element, Text, Comment,
 use Rattle.document_model.specs.Documents.{is_in_text}
 use Rattle.document_model.specs.Places.{path_of, begins_node}
 use Rattle.document_model.specs.Insertion.{StandInside}
-use Rattle.document_model.proofs.Grown.{Full, Spine, joined_full, joined_full_behind, last_next, last_joined, grown_none, joined_none, added_start, added_end, spine_after, spine_stays}
+use Rattle.document_model.proofs.Grown.{Full, Spine, joined_full, joined_full_behind, last_next, last_joined, joined_none, added_start, spine_after, spine_stays}
+use Rattle.document_model.proofs.Put.{closing}
 use Rattle.doc_spans.specs.Marks.{Follow, open_path}
 use Rattle.doc_spans.proofs.Spine.{inside, inside_last, inside_grown, inside_deeper, path_grown, path_of_last}
 
@@ -28,7 +29,7 @@ is_text (Instruction target content) = false
 abbrev pub ends_in_text : Nodes → Bool
 ends_in_text nodes = option_map_or is_text (last_of nodes) false
 
-stand : (before : List Item) → Follow before → StandInside before
+pub stand : (before : List Item) → Follow before → StandInside before
 stand [] h = tt
 stand (end_tag name ∷ before) h = (h.0, stand before h.1)
 stand (declaration ∷ before) h = stand before h.1
@@ -115,9 +116,6 @@ pub none_yet : (name : Name) (attributes : List Attribute) (before : List Item) 
 none_yet name attributes before h =
     ap (λ x. inside (suc (depth before)) (grown (depth before) x (tree_after before))) (added_start (depth before) name attributes)
     ∙ opened (depth before) name attributes (tree_after before) (spine before h)
-
-pub closing : (name : Name) (before : List Item) → tree_after (end_tag name ∷ before) ≡ tree_after before
-closing name before = ap (λ x. grown (depth before) x (tree_after before)) (added_end (depth before) name) ∙ grown_none (depth before) (tree_after before)
 
 -- the children, where an item of one node that is no tag leaves the depth
 pub more : (before : List Item) (x : Nodes) → Follow before → inside (depth before) (grown (depth before) x (tree_after before)) ≡ joined (children before) x

@@ -9,6 +9,7 @@ use Rattle.document_model.specs.Tree.{Node, Nodes, Element, Text, Comment, Instr
 use Rattle.document_model.specs.Documents.{is_in_text}
 use Rattle.document_model.specs.Places.{path_of, begins_node}
 use Rattle.document_model.proofs.Grown.{Spine, joined_none, spine_less}
+use Rattle.document_model.proofs.Put.{closing}
 use Rattle.doc_spans.specs.declared.rows.Kind.TheVariants as kinds
 use Rattle.doc_spans.specs.declared.rows.Shape.TheVariants as shapes
 use Rattle.doc_spans.specs.Marks.{size, items_of, Follow, open_path, kind_of_item, shape_of}
@@ -16,7 +17,7 @@ use Rattle.doc_spans.specs.Building as building
 use Rattle.doc_spans.specs.Building.{State, step, with_end, parent_of}
 use Rattle.doc_spans.specs.View.{none}
 use Rattle.doc_spans.proofs.Spine.{inside, path_grown, path_of_last}
-use Rattle.doc_spans.proofs.Steps.{children, child_count, ends_in_text, is_text, spine, never, text_is_last, deep, added_whole, added_comment, added_instruction, path_begun, path_of_text, stays_in_text, more, closing, count_apart, behind, Behind, last_below, none_yet}
+use Rattle.doc_spans.proofs.Steps.{children, child_count, ends_in_text, is_text, spine, never, text_is_last, deep, added_whole, added_comment, added_instruction, path_begun, path_of_text, stays_in_text, more, count_apart, behind, Behind, last_below, none_yet}
 use Rattle.doc_spans.proofs.Builds.{Builds, Next, IsNothing, IsLeaf, IsStart}
 use Rattle.doc_spans.proofs.EndedRows.{IsEnd, GoesOn}
 use Rattle.doc_spans.proofs.Links.{Built, built_nothing, built_leaf, built_start, built_on, built_end}

@@ -57,6 +57,13 @@ impl<'a> Doc<'a> {
         Doc { bytes, tree }
     }
 
+    /// Its bytes.
+    pub fn bytes(self) -> &'a [u8]
+        ensures { result.now ≡ bytes_in self.entry }
+    {
+        self.bytes
+    }
+
     /// The document element.
     pub fn root(self) -> NodeId
         ensures has { Has self.entry result }

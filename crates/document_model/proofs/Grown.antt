@@ -39,7 +39,7 @@ joined_none (Instruction target content ⨾ a) = ap (λ r. Instruction target co
 joined_none (Text cs ⨾ no_nodes) = refl
 joined_none (Text cs ⨾ node ⨾ a) = ap (λ r. Text cs ⨾ r) (joined_none (node ⨾ a))
 
-joined_assoc : (a b c : Nodes) → joined (joined a b) c ≡ joined a (joined b c)
+pub joined_assoc : (a b c : Nodes) → joined (joined a b) c ≡ joined a (joined b c)
 joined_assoc no_nodes b c = refl
 joined_assoc (Element name attributes inner ⨾ a) b c = ap (λ r. Element name attributes inner ⨾ r) (joined_assoc a b c)
 joined_assoc (Comment cs ⨾ a) b c = ap (λ r. Comment cs ⨾ r) (joined_assoc a b c)
@@ -73,7 +73,7 @@ in_last_full f no_nodes h = absurd h
 in_last_full f (node ⨾ no_nodes) h = tt
 in_last_full f (node ⨾ next ⨾ nodes) h = tt
 
-in_last_twice : (f g : Node → Node) (nodes : Nodes) → in_last f (in_last g nodes) ≡ in_last (λ node. f (g node)) nodes
+pub in_last_twice : (f g : Node → Node) (nodes : Nodes) → in_last f (in_last g nodes) ≡ in_last (λ node. f (g node)) nodes
 in_last_twice f g no_nodes = refl
 in_last_twice f g (node ⨾ no_nodes) = refl
 in_last_twice f g (node ⨾ next ⨾ nodes) =
@@ -91,7 +91,7 @@ in_nodes_same f g h (Text cs) = refl
 in_nodes_same f g h (Comment cs) = refl
 in_nodes_same f g h (Instruction target content) = refl
 
-in_last_joined : (f : Nodes → Nodes) (a b : Nodes) → Full b → in_last (in_nodes_of f) (joined a b) ≡ joined a (in_last (in_nodes_of f) b)
+pub in_last_joined : (f : Nodes → Nodes) (a b : Nodes) → Full b → in_last (in_nodes_of f) (joined a b) ≡ joined a (in_last (in_nodes_of f) b)
 in_last_joined f a no_nodes h = absurd h
 in_last_joined f no_nodes (node ⨾ b) h = refl
 in_last_joined f (Element name attributes inner ⨾ a) (node ⨾ b) h =
@@ -126,7 +126,7 @@ last_full no_nodes node e = absurd (none-some _ e)
 last_full (first ⨾ nodes) node e = tt
 
 -- what is put in twice at one place and below it
-grown_twice : (d e : ℕ) (x added nodes : Nodes) → Spine e added → grown (d + e) x (grown d added nodes) ≡ grown d (grown e x added) nodes
+pub grown_twice : (d e : ℕ) (x added nodes : Nodes) → Spine e added → grown (d + e) x (grown d added nodes) ≡ grown d (grown e x added) nodes
 grown_twice zero zero x added nodes s = joined_assoc nodes added x
 grown_twice zero (suc e) x added nodes s =
     rw zero-add (in_last_joined (grown e x) nodes added (last_full added s.0 s.1))

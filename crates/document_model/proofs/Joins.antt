@@ -29,7 +29,7 @@ by_test P false x y h k = k refl
 abbrev pub Joins : List ℕ → List ℕ × List ℕ → Type 0
 Joins bytes parts = parts.0 ++ parts.1 ≡ bytes
 
-through_joins : (close bytes : List ℕ) → Joins bytes (through close bytes)
+pub through_joins : (close bytes : List ℕ) → Joins bytes (through close bytes)
 through_joins close [] = refl
 through_joins close (b ∷ bytes) = by_test (Joins (b ∷ bytes)) (starts_with nat_eq (b ∷ bytes) close) _ _
     (λ e. let front : close ≡ take (length close) (b ∷ bytes) = same_text _ _ (sym e) in

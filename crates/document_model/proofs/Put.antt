@@ -150,7 +150,7 @@ off_less d [] nodes o = o
 off_less zero (k ∷ path) nodes o = (o.0, o.1, o.2, tt)
 off_less (suc d) (k ∷ path) nodes o = (o.0, o.1, o.2, elim o.3 [ inl before ↦ inl before | inr last ↦ inr (last.0, off_less d path (below o.0) last.1) ])
 
-off_pred : (d : ℕ) (path : Path) (nodes : Nodes) → Off path d nodes → Off path (pred d) nodes
+pub off_pred : (d : ℕ) (path : Path) (nodes : Nodes) → Off path d nodes → Off path (pred d) nodes
 off_pred zero path nodes o = o
 off_pred (suc d) path nodes o = off_less d path nodes o
 
@@ -234,7 +234,7 @@ off_opens zero (k ∷ path) name attributes nodes o =
 off_opens (suc d) (k ∷ path) name attributes nodes o =
     off_in_last d (suc d) k path (grown d (Element name attributes no_nodes ⨾ no_nodes)) nodes (λ inner. off_opens d path name attributes inner) o
 
-off_after : (item : Item) (before : List Item) (path : Path) → Off path (depth before) (tree_after before) → Off path (depth (item ∷ before)) (tree_after (item ∷ before))
+pub off_after : (item : Item) (before : List Item) (path : Path) → Off path (depth before) (tree_after before) → Off path (depth (item ∷ before)) (tree_after (item ∷ before))
 off_after (start_tag name attributes) before path o =
     let P : Nodes → Type 0 = λ x. Off path (suc (depth before)) (grown (depth before) x (tree_after before)) in
     subst P (sym (added_start (depth before) name attributes)) (off_opens (depth before) path name attributes (tree_after before) o)
@@ -251,12 +251,12 @@ last_nth no_nodes node e = absurd (none-some _ e)
 last_nth (n ⨾ no_nodes) node e = e
 last_nth (n ⨾ next ⨾ nodes) node e = last_nth (next ⨾ nodes) node e
 
-is_last : (nodes : Nodes) → Full nodes → IsLast (pred (count nodes)) nodes
+pub is_last : (nodes : Nodes) → Full nodes → IsLast (pred (count nodes)) nodes
 is_last no_nodes h = absurd h
 is_last (n ⨾ no_nodes) h = tt
 is_last (n ⨾ next ⨾ nodes) h = is_last (next ⨾ nodes) tt
 
-off_closed : (d : ℕ) (nodes : Nodes) → Spine (suc d) nodes → Off (last_path (suc d) nodes) d nodes
+pub off_closed : (d : ℕ) (nodes : Nodes) → Spine (suc d) nodes → Off (last_path (suc d) nodes) d nodes
 off_closed zero nodes s = (s.0, last_nth nodes s.0 s.1, s.2, tt)
 off_closed (suc d) nodes s =
     let P : Path → Type 0 = λ path. Off path d (below s.0) in (
@@ -285,7 +285,7 @@ later (item ∷ behind) a b added path e t o =
       off_after item (behind ++ b) path before.1,
     )
 
-closing : (name : Name) (items : List Item) → tree_after (end_tag name ∷ items) ≡ tree_after items
+pub closing : (name : Name) (items : List Item) → tree_after (end_tag name ∷ items) ≡ tree_after items
 closing name items = ap (λ x. grown (depth items) x (tree_after items)) (added_end (depth items) name) ∙ grown_none (depth items) (tree_after items)
 
 pub puts_last : PutsLast

@@ -2,6 +2,7 @@ pub mod Characters
 pub mod Names
 pub mod Items
 pub mod Tree
+pub mod Sizes
 pub mod Scopes
 pub mod Documents
 pub mod NodeSets

@@ -14,11 +14,11 @@ use Rattle.xml_items.specs.Found.{name_in, no_name, IsNameText}
 use Rattle.xml_items.proofs.AsciiTexts.{same_bool, same_from}
 
 -- a text and its two parts before and from the first colon on
-record IsCut (text front behind : List ℕ) : Type 0 where
+pub record IsCut (text front behind : List ℕ) : Type 0 where
   pub joined : front ++ behind ≡ text
   pub colon : (c : ℕ) (rest : List ℕ) → behind ≡ c ∷ rest → c ≡ 0x3A
 
-cut_text : (text : List ℕ) → IsCut text (span is_not_colon text).0 (span is_not_colon text).1
+pub cut_text : (text : List ℕ) → IsCut text (span is_not_colon text).0 (span is_not_colon text).1
 cut_text [] = record { joined = refl; colon = λ c rest e. (cc) }
 cut_text (c ∷ text) = go (cut_text text) (c == 0x3A) refl
   where
@@ -54,7 +54,7 @@ both_same n m h =
     let l : n.local ≡ m.local = same_text n.local m.local (sym both.1) in
     (λ i. record { prefix = p i; local = l i })
 
-itself : (n : Name) → same_name n n ≡ true
+pub itself : (n : Name) → same_name n n ≡ true
 itself n = (λ i. same_from n.prefix n.prefix refl i && bytes_eq n.local n.local) ∙ same_from n.local n.local refl
 
 pub names_same : (a b : List ℕ) → IsUtf8 a → IsUtf8 b → IsNameText a → IsNameText b → bytes_eq a b ≡ same_name (name_in (chars a)) (name_in (chars b))

@@ -1,0 +1,13 @@
+pub mod PieceStays
+pub mod Standing
+pub mod Alike
+pub mod Closings
+pub mod Splice
+pub mod Scope
+pub mod Runs
+pub mod Quiet
+pub mod ReadKinds
+pub mod Opened
+pub mod Heights
+pub mod Added
+pub mod Law
