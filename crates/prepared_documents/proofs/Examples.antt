@@ -10,6 +10,7 @@ use Rattle.document_model.specs.Scopes.{is_sound}
 use Rattle.document_model.specs.Tree.{Path}
 use Rattle.signature_model.specs.Vocabulary.{Sha256}
 use Rattle.signature_model.specs.Prepared.{Draft}
+use Rattle.insertion_fragments.specs.Drafts.{IsWritable}
 use Rattle.prepared_documents.specs.Preparable.{MayPrepare}
 use Rattle.prepared_documents.specs.PreparedRead.{IsComplete}
 
@@ -38,3 +39,7 @@ two_bytes (suc (suc i)) = omega arith
 complete : IsComplete (λ kind octets. true) draft
 unfolding draft
 complete = record { timed = refl; signer = refl; whole = (two_bytes, refl, tt); few = omega arith }
+
+writable : IsWritable draft
+unfolding draft
+writable = record { time_simple = refl; id_writable = refl; method_writable = refl; certificates_bytes = (two_bytes, tt); references_writable = (refl, (refl, (refl, tt))) }

@@ -25,7 +25,8 @@ use Rattle.covered_items.proofs.WholeBytes.{whole_bytes}
 use Rattle.covered_items.proofs.NewElements.{spot_below, elements_stand, child_there}
 use Rattle.prepared_documents.specs.Places.{root_of, signature_in}
 use Rattle.prepared_documents.specs.Preparable.{IsTarget, AreTargets, IsPreparable}
-use Rattle.prepared_documents.specs.PreparedRead.{IsComplete, GivesBytes}
+use Rattle.prepared_documents.specs.PreparedRead.{IsComplete}
+use Rattle.insertion_fragments.specs.Drafts.{GivesBytes}
 use Rattle.signature_model.specs.Octets.{has_its_digest}
 use Rattle.prepared_documents.specs.Judged.{IsHanded, AreHanded, ReferencesAreSound, CertificateIsFirst, MethodIsTheDrafts}
 use Rattle.prepared_documents.proofs.Reading as reading

@@ -18,7 +18,8 @@ use Rattle.covered_items.specs.Whole.{AreWhole}
 use Rattle.covered_items.proofs.NewElements.{spot_below}
 use Rattle.prepared_documents.specs.Places.{root_of, signature_in, signature_attributes}
 use Rattle.prepared_documents.specs.Preparable.{IsPreparable}
-use Rattle.prepared_documents.specs.PreparedRead.{IsComplete, GivesBytes, PreparedIsRead, PreparedTakesAValue}
+use Rattle.prepared_documents.specs.PreparedRead.{IsComplete, PreparedIsRead, PreparedTakesAValue}
+use Rattle.insertion_fragments.specs.Drafts.{GivesBytes}
 use Rattle.signature_model.specs.Fragments.{Value}
 use Rattle.signature_model.proofs.ReadTakes.{read_takes_item}
 use Rattle.prepared_documents.proofs.Reading as reading

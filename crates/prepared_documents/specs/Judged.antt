@@ -9,9 +9,10 @@ use Rattle.signature_model.specs.Parts.{DatumKind, references, signature_method,
 use Rattle.signature_model.specs.Chains.{Handed, Place, Document, Named, External, place_named, fault}
 use Rattle.signature_model.specs.Octets.{has_its_digest}
 use Rattle.signature_model.specs.Prepared.{Draft, first_certificate, prepared}
+use Rattle.insertion_fragments.specs.Drafts.{GivesBytes}
 use Rattle.prepared_documents.specs.Places.{signature_in}
 use Rattle.prepared_documents.specs.Preparable.{IsPreparable}
-use Rattle.prepared_documents.specs.PreparedRead.{IsComplete, GivesBytes}
+use Rattle.prepared_documents.specs.PreparedRead.{IsComplete}
 
 -- the octets of external References are handed in
 abbrev pub IsHanded : Handed → Place → List ℕ → Type 0
@@ -39,8 +40,11 @@ abbrev pub CertificateIsFirst : Type 0
 CertificateIsFirst = (is_whole : DatumKind → List ℕ → Bool) (digest : DigestKind → List ℕ → List ℕ) (handed : Handed) (document : Nodes) (draft : Draft) → GivesBytes digest → IsComplete is_whole draft → IsPreparable document draft
     → signing_certificate digest (prepared digest handed document draft) (signature_in document draft) ≡ Some (first_certificate draft)
 
+-- the signature has a SignatureMethod with this name
+abbrev pub HasMethod : Nodes → Spot → List ℕ → Type 0
+HasMethod document signature name = (method : Spot) × (signature_method document signature ≡ method ∷ []) × (attribute (codes "Algorithm") method ≡ Some name)
+
 -- The law: the SignatureMethod of the prepared document is the draft's.
 abbrev pub MethodIsTheDrafts : Type 0
 MethodIsTheDrafts = (digest : DigestKind → List ℕ → List ℕ) (handed : Handed) (document : Nodes) (draft : Draft) → IsPreparable document draft
-    → (method : Spot) × (signature_method (prepared digest handed document draft) (signature_in document draft) ≡ method ∷ [])
-    × (attribute (codes "Algorithm") method ≡ Some draft.method)
+    → HasMethod (prepared digest handed document draft) (signature_in document draft) draft.method

@@ -5,3 +5,4 @@ pub mod Covering
 pub mod PreparedRead
 pub mod Judged
 pub mod Tests
+pub mod Bytes

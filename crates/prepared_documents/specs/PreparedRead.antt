@@ -1,7 +1,6 @@
 -- The laws that a prepared document is read, and that its signature takes a value. This project's own, over the parts of XML Signature
 -- 1.1, "Core Signature Syntax", and EN 319 132-1, clauses 4.3 and 5.2.
 use Rattle.std.specs.Prelude.{◌≡◌, ℕ, ◌+◌, ◌<◌, ◌^◌, Bool, false, List, length}
-use Rattle.base64.specs.GeneralPurpose.{IsBytes}
 use Rattle.document_model.specs.Characters.{is_empty}
 use Rattle.document_model.specs.Tree.{Nodes}
 use Rattle.signature_model.specs.Vocabulary.{DigestKind}
@@ -14,6 +13,7 @@ use Rattle.signature_model.specs.Fragments.{Value}
 use Rattle.signature_model.specs.Keeping.{TakesItem}
 use Rattle.signature_model.specs.Prepared.{Draft, prepared}
 use Rattle.covered_items.specs.Whole.{AreWhole}
+use Rattle.insertion_fragments.specs.Drafts.{GivesBytes}
 use Rattle.prepared_documents.specs.Places.{signature_in}
 use Rattle.prepared_documents.specs.Preparable.{IsPreparable}
 
@@ -23,10 +23,6 @@ pub record IsComplete (is_whole : DatumKind → List ℕ → Bool) (draft : Draf
   pub signer : is_empty draft.certificates ≡ false
   pub whole : AreWhole is_whole Certificate draft.certificates
   pub few : 1 + length draft.references < 2 ^ 64
-
--- a digest is a list of bytes
-abbrev pub GivesBytes : (DigestKind → List ℕ → List ℕ) → Type 0
-GivesBytes digest = (kind : DigestKind) (octets : List ℕ) → IsBytes (digest kind octets)
 
 -- a document has this signature, which is unsigned and free
 pub record IsReadWith (is_whole : DatumKind → List ℕ → Bool) (document : Nodes) (draft : Draft) (new : Nodes) : Type 0 where

@@ -1,0 +1,8 @@
+pub mod SimpleCharacters
+pub mod WrittenValues
+pub mod NameCharacters
+pub mod StartTags
+pub mod WrittenNodes
+pub mod ItemFragments
+pub mod DocumentElement
+pub mod DraftFragments
