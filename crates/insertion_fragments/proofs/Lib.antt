@@ -1,6 +1,5 @@
 pub mod SimpleCharacters
 pub mod WrittenValues
-pub mod NameCharacters
 pub mod StartTags
 pub mod WrittenNodes
 pub mod ItemFragments

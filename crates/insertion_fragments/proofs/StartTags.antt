@@ -14,7 +14,7 @@ use Rattle.document_model.specs.Canonical.{attribute_text, value_character}
 use Rattle.xml_items.proofs.Attributes.{pair_whole}
 use Rattle.xml_items.proofs.OrdinaryCharacters.{ordinary_is}
 use Rattle.insertions.proofs.Quiet.{in_name, tag_text, EndsIn, ends_pass, all_weaker}
-use Rattle.insertion_fragments.proofs.NameCharacters.{name_chars}
+use Rattle.insertions.proofs.Found.{name_chars}
 use Rattle.insertions.proofs.Opened.{AreChars, EmptyTag, front_of, start_text, start_piece, end_text, end_piece, no_white}
 use Rattle.insertion_fragments.specs.Fragment.{is_simple, IsSimpleName, AreSimple}
 use Rattle.insertion_fragments.proofs.WrittenValues.{written_value, value_read, no_quotes, value_chars}
