@@ -27,9 +27,9 @@ use Rattle.signature_model.proofs.References.{references_stay, references_named,
 use Rattle.signature_model.proofs.Covered.{signature_apart}
 use Rattle.signature_model.proofs.PropertyKept.{IsHeld, negated}
 use Rattle.signature_model.proofs.PartsStay.{key_info_stays, method_stays, method_apart}
-use Rattle.signature_model.proofs.ReadTakes.{front_nothing, behind_nothing, map_nothing}
 use Rattle.signature_model.proofs.ItemKept.{put_at}
 use Rattle.signature_model.proofs.Plain.{content_plain, none_and}
+use Rattle.signature_model.proofs.ShapeLines.{front_nothing, behind_nothing, map_nothing, lines_of, shape_of}
 use Rattle.covered_items.proofs.NewElements.{Stands, spot_below, held_stands, elements_stand, spots_from, stand_within}
 use Rattle.covered_items.proofs.NewHolders.{filter_without}
 use Rattle.covered_items.proofs.SignedPartsStay.{chain_stays, named_in, first_in, key_info_named, cert_stays, methods_stay}
@@ -37,7 +37,7 @@ use Rattle.attached_items.proofs.Inside.{Inside, held_inside, child_inside, insi
 use Rattle.covered_items.proofs.HoldingStays as words
 use Rattle.attached_items.proofs.LinesStay as lines
 use Rattle.attached_items.proofs.LinesStay.{value_line_stays}
-use Rattle.attached_items.proofs.ReadAs.{IsReadAs, read_as, reads, lines_of, shape_of}
+use Rattle.attached_items.proofs.ReadAs.{IsReadAs, read_as, reads}
 use Rattle.covered_items.specs.Whole.{AreWhole}
 use Rattle.covered_items.proofs.Lists.{paths_both, spots_of, kinds_of, none_of_each, each_of_none, each_front, each_behind}
 use Rattle.attached_items.proofs.DeepSpots.{Passes}

@@ -23,7 +23,6 @@ use Rattle.signature_model.specs.Fragments.{encoded}
 use Rattle.signature_model.proofs.Standing.{Each}
 use Rattle.signature_model.proofs.Lists.{each_append, each_first, each_map, each_filter, each_flat, flat_same, filter_same}
 use Rattle.signature_model.proofs.Apart.{Apart, called_stay, elements_stay, form_stays}
-use Rattle.signature_model.proofs.ReadTakes.{front_nothing, behind_nothing, map_nothing}
 use Rattle.signature_model.proofs.PropertyKept.{IsHeld, held_apart}
 use Rattle.signature_model.proofs.PartsStay.{method_apart}
 use Rattle.covered_items.proofs.NewElements.{one_element, Stands, spot_below, held_stands, elements_stand, child_there}
@@ -35,6 +34,7 @@ use Rattle.attached_items.proofs.Inside.{Inside, held_inside, filtered_inside, a
 use Rattle.covered_items.proofs.HoldingStays as words
 use Rattle.covered_items.proofs.Lists.{paths_both}
 use Rattle.signature_model.proofs.Plain.{none_and}
+use Rattle.signature_model.proofs.ShapeLines.{front_nothing, behind_nothing, map_nothing}
 
 -- A kind of time-stamp that is put in: its name and attributes, those of its token's element, and what is told by them wherever it stands.
 

@@ -24,7 +24,6 @@ use Rattle.signature_model.proofs.Covered.{Setting}
 use Rattle.signature_model.proofs.PropertyKept.{IsPart}
 use Rattle.signature_model.proofs.Outer.{qualifying_stays, qualifying_apart, unsigned_stays, unsigned_apart, list_stays}
 use Rattle.signature_model.proofs.Hosts.{InnerNamed, list_inner}
-use Rattle.signature_model.proofs.ReadTakes.{front_nothing, not_nothing}
 use Rattle.signature_model.proofs.ItemKept.{put_at}
 use Rattle.covered_items.proofs.NewHolders.{IsApart, signed_stay}
 use Rattle.covered_items.proofs.SignedPartsStay.{chain_stays, named_in, first_in, key_info_named, signed_named, methods_stay, cert_stays}
@@ -35,13 +34,14 @@ use Rattle.covered_items.proofs.HoldingStays as words
 use Rattle.covered_items.proofs.Lists.{spots_of, kinds_of, each_of_none}
 use Rattle.signature_model.proofs.Plain.{none_and}
 use Rattle.covered_items.proofs.PropertiesLine.{HolderSlots, ListSlots}
-use Rattle.attached_items.proofs.ReadAs.{IsReadAs, read_as, reads, lines_of, shape_of}
+use Rattle.attached_items.proofs.ReadAs.{IsReadAs, read_as, reads}
 use Rattle.attached_items.proofs.LinesStay as lines
 use Rattle.attached_items.proofs.DeepSpots.{Passes, Deep, deep_passes, properties_deep}
 use Rattle.attached_items.proofs.OldProperties as old
 use Rattle.signature_model.specs.Chains.{Handed}
 use Rattle.signature_model.specs.Octets.{value_octets, octets_at}
 use Rattle.signature_model.specs.Covers.{Signed, stamped_by, stamped}
+use Rattle.signature_model.proofs.ShapeLines.{front_nothing, not_nothing, lines_of, shape_of}
 use Rattle.attached_items.specs.ReadAgain.{ValueIsCoveredAlone}
 
 has_alone : (b : Bool) (spot : Spot) → paths (cond (not b) (spot ∷ []) []) ≡ [] → b ≡ true

@@ -6,7 +6,7 @@ use Rattle.signature_model.specs.Spots.{Spot, paths}
 use Rattle.signature_model.specs.Parts as parts
 use Rattle.signature_model.specs.Parts.{DatumKind, Datum}
 use Rattle.signature_model.proofs.Standing.{Each}
-use Rattle.signature_model.proofs.ReadTakes.{not_nothing}
+use Rattle.signature_model.proofs.ShapeLines.{not_nothing}
 
 pub none_of_each : {A : Type 0} (f : A → Bool) (xs : List A) → Each (λ x. f x ≡ false) xs → filter f xs ≡ []
 none_of_each f [] h = refl

@@ -16,11 +16,11 @@ use Rattle.signature_model.specs.Shape.{properties_line}
 use Rattle.signature_model.proofs.Standing.{Each}
 use Rattle.signature_model.proofs.Lists.{not_both}
 use Rattle.signature_model.proofs.Apart.{Apart, all_apart}
-use Rattle.signature_model.proofs.ReadTakes.{not_nothing, front_nothing, behind_nothing}
 use Rattle.signature_model.proofs.PropertyKept.{PropertySetting}
 use Rattle.covered_items.proofs.SignedPartsStay.{signed_named}
 use Rattle.covered_items.proofs.Lists.{paths_both}
 use Rattle.signature_model.proofs.Plain.{none_and}
+use Rattle.signature_model.proofs.ShapeLines.{not_nothing, front_nothing, behind_nothing}
 
 -- Stray text.
 

@@ -10,7 +10,7 @@ use Rattle.document_model.specs.Tree.{Node, Nodes, Path, Element, Text, Comment,
 use Rattle.document_model.specs.Scopes.{Tag, tags_down, tags_at}
 use Rattle.document_model.specs.NodeSets.{once_each, identified, identified_in}
 use Rattle.signature_model.specs.Spots.{Spot, is_called, outermost, outermost_in}
-use Rattle.signature_model.proofs.ReadTakes.{front_nothing, behind_nothing}
+use Rattle.signature_model.proofs.ShapeLines.{front_nothing, behind_nothing}
 use Rattle.covered_items.proofs.NewElements.{one_element}
 
 nil_behind : (p : Path) → p ++ [] ≡ p

@@ -1,7 +1,6 @@
 -- A document that is read has a signature with a value and a host.
 use Rattle.std.proofs.Common.{◌≡◌, ℕ, Bool, true, false, cond, not, ◌||◌, List, [], ◌∷◌, ◌++◌, Option, Some, None, refl, sym, ◌∙◌, ap, subst, codes}
-use Rattle.std.proofs.lemmas.Option.{none-some}
-use Rattle.std.specs.Prelude.{drop, filter, map}
+use Rattle.std.specs.Prelude.{drop, filter}
 use Rattle.std.specs.List.{list_any}
 use Rattle.document_model.specs.Characters.{is_empty}
 use Rattle.document_model.specs.Names.{Expanded}
@@ -9,10 +8,9 @@ use Rattle.document_model.specs.Tree.{Nodes, Path}
 use Rattle.signature_model.specs.Vocabulary.{ds, xades}
 use Rattle.signature_model.specs.Spots.{Spot, is_called, attribute, called, called_in, elements_in, first, paths}
 use Rattle.signature_model.specs.Parts.{DatumKind, counted, value, host, objects, is_qualifying, qualifying_objects, qualifying, unsigned, unsigned_signature, includes}
-use Rattle.signature_model.specs.Faults.{What, ShapeFault, first_fault, first_place, of_line}
-use Rattle.signature_model.specs.Faults as words
+use Rattle.signature_model.specs.Faults.{ShapeFault, first_fault, first_place}
 use Rattle.signature_model.specs.Holding.{Slot, one, any_number, lacks_one, first_misfit, misfits, further, without_attribute, with_stray_text}
-use Rattle.signature_model.specs.Shape.{or_first, points_to, id_of, parts_line, info_line, form_line, method_line, reference_line, qualifying_line, properties_line, covered_line, signed_line, data_object_line, key_line, value_line, stamp_line, values_line, shape_faults}
+use Rattle.signature_model.specs.Shape.{or_first, points_to, id_of, parts_line, qualifying_line, shape_faults}
 use Rattle.signature_model.specs.Readable.{Answer, Read, NoSignature, Several, Shape, Include, PropertyData, by_data, by_include, by_shape, bad_data, read_parts, only, answer}
 use Rattle.signature_model.specs.Covers.{IsFree}
 use Rattle.signature_model.specs.Fragments.{Item}
@@ -20,23 +18,9 @@ use Rattle.signature_model.specs.Keeping.{IsSignature, MayTake, TakesItem}
 use Rattle.signature_model.proofs.Standing.{Each}
 use Rattle.signature_model.proofs.Lists.{not_both, neither}
 use Rattle.signature_model.proofs.CountedStand.{counted_stand}
+use Rattle.signature_model.proofs.ShapeLines.{not_nothing, front_nothing, behind_nothing, none_first, lines_of}
 
 -- Lists.
-
-pub not_nothing : {A : Type 0} (x : A) (xs : List A) → x ∷ xs ≡ [] → ⊥
-not_nothing x xs e = not_both (sym (ap is_empty e))
-
-pub front_nothing : {A : Type 0} (xs ys : List A) → xs ++ ys ≡ [] → xs ≡ []
-front_nothing [] ys e = refl
-front_nothing (x ∷ xs) ys e = absurd (not_nothing x (xs ++ ys) e)
-
-pub behind_nothing : {A : Type 0} (xs ys : List A) → xs ++ ys ≡ [] → ys ≡ []
-behind_nothing [] ys e = e
-behind_nothing (x ∷ xs) ys e = absurd (not_nothing x (xs ++ ys) e)
-
-pub map_nothing : {A B : Type 0} (f : A → B) (xs : List A) → map f xs ≡ [] → xs ≡ []
-map_nothing f [] e = refl
-map_nothing f (x ∷ xs) e = absurd (not_nothing (f x) (map f xs) e)
 
 -- a list has a first element
 abbrev HasFirst : {A : Type 0} → List A → Type 0
@@ -109,36 +93,11 @@ passed s signature None None (Some next) e = absurd (is_read (PropertyData next)
 passed s signature None (Some place) next e = absurd (is_read (Include place) signature e)
 passed s signature (Some fault) place next e = absurd (is_read (Shape fault.place fault.what) signature e)
 
-pub none_first : (faults : List ShapeFault) → first_fault faults ≡ None → faults ≡ []
-none_first [] e = refl
-none_first (fault ∷ faults) e = absurd (none-some _ (sym e))
-
 -- the lines of the shape that are needed
 pub record HasLines (document : Nodes) (signature : Spot) : Type 0 where
   pub is_signature : IsSignature document signature
   pub parts : parts_line document signature ≡ []
   pub qualifying : qualifying_line document signature ≡ []
-
-lines_of : (document : Nodes) (s signature : Spot) → IsSignature document s → s ≡ signature → shape_faults document s ≡ [] → HasLines document signature
-lines_of document s signature h same e =
-    let to_stamp = front_nothing _ (of_line words.Values (values_line document s)) e in
-    let to_value = front_nothing _ (of_line words.Stamp (stamp_line document s)) to_stamp in
-    let to_key = front_nothing _ (of_line words.Value (value_line document s)) to_value in
-    let to_data = front_nothing _ (of_line words.Key (key_line document s)) to_key in
-    let to_signed = front_nothing _ (of_line words.DataObject (data_object_line document s)) to_data in
-    let to_covered = front_nothing _ (of_line words.Signed (signed_line document s)) to_signed in
-    let to_properties = front_nothing _ (of_line words.Covered (covered_line document s)) to_covered in
-    let to_qualifying = front_nothing _ (of_line words.Properties (properties_line document s)) to_properties in
-    let to_reference = front_nothing _ (of_line words.Qualifying (qualifying_line document s)) to_qualifying in
-    let to_method = front_nothing _ (of_line words.Reference (reference_line document s)) to_reference in
-    let to_form = front_nothing _ (of_line words.Method (method_line document s)) to_method in
-    let to_info = front_nothing _ (of_line words.Form (form_line document s)) to_form in
-    let to_parts = front_nothing _ (of_line words.Info (info_line document s)) to_info in
-    subst (HasLines document) same (record {
-      is_signature = h;
-      parts = map_nothing _ (parts_line document s) to_parts;
-      qualifying = map_nothing _ (qualifying_line document s) (behind_nothing _ (of_line words.Qualifying (qualifying_line document s)) to_qualifying);
-    })
 
 of_only : (is_whole : DatumKind → List ℕ → Bool) (document : Nodes) (signature : Spot) (signatures : List Spot) → Each (IsSignature document) signatures
     → only (read_parts is_whole document) signatures ≡ Read signature → HasLines document signature
@@ -146,7 +105,8 @@ of_only is_whole document signature [] h e = absurd (is_read NoSignature signatu
 of_only is_whole document signature (s ∷ next ∷ signatures) h e = absurd (is_read Several signature e)
 of_only is_whole document signature (s ∷ []) h e =
     let p = passed s signature (first_fault (shape_faults document s)) (first_place (paths (includes document s))) (first_place (bad_data is_whole document s)) e in
-    lines_of document s signature h.0 p.0 (none_first (shape_faults document s) p.1)
+    let lines = lines_of document s (none_first (shape_faults document s) p.1) in
+    subst (HasLines document) p.0 (record { is_signature = h.0; parts = lines.parts; qualifying = lines.qualifying })
 
 -- The value and the host.
 
