@@ -1,5 +1,6 @@
 -- A signature that has taken validation data has its parts again.
 use Rattle.std.proofs.Common.{◌≡◌, ℕ, Bool, true, false, cond, not, ◌+◌, List, [], ◌∷◌, ◌++◌, arith, refl, sym, ◌∙◌, ap, subst, codes, append_assoc}
+use Rattle.std.proofs.lemmas.Bool.{not-true}
 use Rattle.std.proofs.lemmas.List.{append-nil, map-append}
 use Rattle.std.proofs.lemmas.Grind.{flat_map-append}
 use Rattle.std.proofs.lemmas.List.Elements.{filter-append}
@@ -25,7 +26,7 @@ use Rattle.signature_model.proofs.Lists.{both, neither, each_append, each_map, e
 use Rattle.signature_model.proofs.Apart.{Apart, IsNamed, all_apart, named_apart}
 use Rattle.signature_model.proofs.References.{references_stay, references_named, transforms_stay, transforms_stand}
 use Rattle.signature_model.proofs.Covered.{signature_apart}
-use Rattle.signature_model.proofs.PropertyKept.{IsHeld, negated}
+use Rattle.signature_model.proofs.PropertyKept.{IsHeld}
 use Rattle.signature_model.proofs.PartsStay.{key_info_stays, method_stays, method_apart}
 use Rattle.signature_model.proofs.ItemKept.{put_at}
 use Rattle.signature_model.proofs.Plain.{content_plain, none_and}
@@ -401,7 +402,7 @@ new_material A is_whole document signature place certificates lists v w t h go =
     by_alone : (b : Bool) → stands_alone document signature ≡ b → A
     by_alone true e =
         let added : Nodes = content_of document signature (Data certificates lists) in
-        let none : has_values document signature ≡ false = negated (has_values document signature) (both (not (has_values document signature)) _ e).0 in
+        let none : has_values document signature ≡ false = not-true (has_values document signature) (both (not (has_values document signature)) _ e).0 in
         go _ (alone_material is_whole document added signature place certificates lists v w t.is_signature h t.free (content_plain document signature (Data certificates lists)) none
         (ap (λ b. wrapped document signature (data_fragment b certificates lists)) e))
     by_alone false e =

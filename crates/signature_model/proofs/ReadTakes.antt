@@ -1,5 +1,6 @@
 -- A document that is read has a signature with a value and a host.
 use Rattle.std.proofs.Common.{◌≡◌, ℕ, Bool, true, false, cond, not, ◌||◌, List, [], ◌∷◌, ◌++◌, Option, Some, None, refl, sym, ◌∙◌, ap, subst, codes}
+use Rattle.std.proofs.lemmas.Bool.{not-false, not-true}
 use Rattle.std.specs.Prelude.{drop, filter}
 use Rattle.std.specs.List.{list_any}
 use Rattle.document_model.specs.Characters.{is_empty}
@@ -56,14 +57,6 @@ one_first spots h = (h.0, ap first h.2)
 last_first : {A : Type 0} (xs ys : List A) → HasFirst ys → HasFirst (xs ++ ys)
 last_first [] ys h = h
 last_first (x ∷ xs) ys h = (x, xs ++ ys, refl)
-
-true_of_not : (b : Bool) → not b ≡ false → b ≡ true
-true_of_not true e = refl
-true_of_not false e = absurd (not_both e)
-
-false_of_not : (b : Bool) → not b ≡ true → b ≡ false
-false_of_not true e = absurd (not_both (sym e))
-false_of_not false e = refl
 
 -- The answer.
 
@@ -126,7 +119,7 @@ value_of document signature e =
     let behind = (neither _ _ lacks).1 in
     let missing = (neither _ _ behind).0 in
     one_first (called document (ds (codes "SignatureValue")) signature)
-    (any_first (is_called (ds (codes "SignatureValue"))) children (true_of_not (list_any (is_called (ds (codes "SignatureValue"))) children) missing))
+    (any_first (is_called (ds (codes "SignatureValue"))) children (not-false (list_any (is_called (ds (codes "SignatureValue"))) children) missing))
 
 holders_there : (b : Bool) (objects : List Spot) (signature : Spot) → cond b (or_first objects signature) [] ≡ [] → b ≡ false
 holders_there true [] signature e = absurd (not_nothing signature.path [] e)
@@ -149,7 +142,7 @@ qualifying_of document signature e =
     let there = holders_there (is_empty holders) (objects document signature) signature (behind_nothing (with_stray_text document holders) _ to_none) in
     let h = has_first holders there in
     let q = has_first (called document name h.0)
-    (false_of_not (is_empty (called document name h.0)) (first_passes (is_qualifying document) (objects document signature) h.0 h.1 h.2)) in
+    (not-true (is_empty (called document name h.0)) (first_passes (is_qualifying document) (objects document signature) h.0 h.1 h.2)) in
     (q.0, [], ap (λ spots. first (called_in document name (first spots))) h.2 ∙ ap (λ spots. first (spots ++ [])) q.2)
 
 host_of : (document : Nodes) (signature : Spot) → qualifying_line document signature ≡ [] → (place : Spot) × (host document signature ≡ place ∷ [])
