@@ -30,9 +30,6 @@ use Rattle.insertion_fragments.proofs.WrittenNodes.{are_content}
 
 -- base64
 
-table_simple : list_all is_simple standard.encode_table ≡ true
-table_simple = refl
-
 in_table : (t : List ℕ) (i : ℕ) → list_all is_simple t ≡ true → i < length t → is_simple (slice_index t i) ≡ true
 in_table [] i h l = absurd (omega (arith, l))
 in_table (c ∷ t) zero h l = (and_parts (is_simple c) (list_all is_simple t) h).0

@@ -44,10 +44,6 @@ Root document = IsElementAt document (root_of document)
 pub place_is : (document : Nodes) (draft : Draft) (r : Root document) → (signature_in document draft).path ≡ root_of document ++ count (below r.0) ∷ []
 place_is document draft r = ap (λ o. root_of document ++ option_map_or (λ node. count (below node)) o 0 ∷ []) r.1
 
--- it is the signature of proofs/Reading
-pub spot_is : (document : Nodes) (draft : Draft) → signature_in document draft ≡ reading.signature (signature_in document draft).path (tags_at document (root_of document)) draft
-spot_is document draft = refl
-
 module _ (digest : DigestKind → List ℕ → List ℕ) (handed : Handed) (document : Nodes) (draft : Draft) (r : Root document) where
   abbrev pub new : Nodes
   new = prepared digest handed document draft

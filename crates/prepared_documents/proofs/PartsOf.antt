@@ -128,10 +128,6 @@ module _ (d : Nodes) (path : Path) (outer : List Tag) (digest digest_of : List �
   qualifying_objects_are = ap (filter (parts.is_qualifying d)) objects_are
       ∙ ap (λ spots. cond (not (is_empty (filter (is_called (xades (codes "QualifyingProperties"))) spots))) (object ∷ []) []) object_children
 
-  pub other_objects_are : parts.other_objects d sig ≡ []
-  other_objects_are = ap (filter (λ o. not (parts.is_qualifying d o))) objects_are
-      ∙ ap (λ spots. cond (not (not (is_empty (filter (is_called (xades (codes "QualifyingProperties"))) spots)))) (object ∷ []) []) object_children
-
   pub qualifying_is : parts.qualifying d sig ≡ qualifying ∷ []
   qualifying_is = ap (λ spots. first (called_in d (xades (codes "QualifyingProperties")) (first spots))) qualifying_objects_are
       ∙ ap first (below_one (xades (codes "QualifyingProperties")) object _ (ap (filter (is_called (xades (codes "QualifyingProperties")))) object_children))
