@@ -46,7 +46,8 @@ pub fn inside(
     if doc.start_tag(element).end == end {
         pieces.open(end, content, doc.name_text(element).as_bytes())
     } else {
-        pieces.add(last_opening(doc.bytes(), end), content)
+        let at = last_opening(doc.bytes(), end);
+        pieces.add(at, content)
     }
 }
 

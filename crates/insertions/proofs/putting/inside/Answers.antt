@@ -18,8 +18,8 @@ open-requires-clause-behind c =
     c.requires.has c.requires.element c.start_tag.ensures c.span-end.ensures) c.if-start_tag-end.true c.name_text.utf8 c.name_text.ensures c.args.content.now in
     subst (λ all. last_place c.args.pieces.now ≤ first_place all) placed c.requires.behind
 
-pub last_opening-requires : goal.last_opening-requires
-last_opening-requires c = subst (λ x. c.span-end.result.end ≤ length x) (sym c.bytes.ensures)
+pub last_opening-at-requires : goal.last_opening-at-requires
+last_opening-at-requires c = subst (λ x. c.span-end.result.end ≤ length x) (sym c.bytes.ensures)
     (seen_within c.args.doc.bytes.now c.args.doc.tree.now c.args.element.0 c.start_tag.result.end c.span-end.result.end c.args.doc.whole
     (the_element c.args.doc.bytes.now c.args.doc.tree.now c.args.element.0 c.start_tag.result.start c.span-end.result.start c.start_tag.result.end c.span-end.result.end
     c.requires.has c.requires.element c.start_tag.ensures c.span-end.ensures))
@@ -27,10 +27,10 @@ last_opening-requires c = subst (λ x. c.span-end.result.end ≤ length x) (sym 
 pub add-requires : goal.add-requires
 add-requires c =
     let placed =
-    seen_at_end c.args.doc.bytes.now c.args.doc.tree.now c.args.element.0 c.start_tag.result.end c.span-end.result.end c.last_opening.result c.args.doc.whole
+    seen_at_end c.args.doc.bytes.now c.args.doc.tree.now c.args.element.0 c.start_tag.result.end c.span-end.result.end c.last_opening-at.result c.args.doc.whole
     (the_element c.args.doc.bytes.now c.args.doc.tree.now c.args.element.0 c.start_tag.result.start c.span-end.result.start c.start_tag.result.end c.span-end.result.end
     c.requires.has c.requires.element c.start_tag.ensures c.span-end.ensures) c.if-start_tag-end.false
-    (subst (λ x. IsLastBefore x c.span-end.result.end c.last_opening.result) c.bytes.ensures (record { last = c.last_opening.ensures.last; here = c.last_opening.ensures.here })) c.args.content.now in
+    (subst (λ x. IsLastBefore x c.span-end.result.end c.last_opening-at.result) c.bytes.ensures (record { last = c.last_opening-at.ensures.last; here = c.last_opening-at.ensures.here })) c.args.content.now in
     subst (λ all. last_place c.args.pieces.now ≤ first_place all) placed c.requires.behind
 
 pub returns-then-start_tag-end-clause-ok : goal.returns-then-start_tag-end-clause-ok
@@ -46,8 +46,8 @@ returns-then-start_tag-end-clause-ok c =
 pub returns-else-start_tag-end-clause-ok : goal.returns-else-start_tag-end-clause-ok
 returns-else-start_tag-end-clause-ok c =
     let placed =
-    seen_at_end c.args.doc.bytes.now c.args.doc.tree.now c.args.element.0 c.start_tag.result.end c.span-end.result.end c.last_opening.result c.args.doc.whole
+    seen_at_end c.args.doc.bytes.now c.args.doc.tree.now c.args.element.0 c.start_tag.result.end c.span-end.result.end c.last_opening-at.result c.args.doc.whole
     (the_element c.args.doc.bytes.now c.args.doc.tree.now c.args.element.0 c.start_tag.result.start c.span-end.result.start c.start_tag.result.end c.span-end.result.end
     c.requires.has c.requires.element c.start_tag.ensures c.span-end.ensures) c.if-start_tag-end.false
-    (subst (λ x. IsLastBefore x c.span-end.result.end c.last_opening.result) c.bytes.ensures (record { last = c.last_opening.ensures.last; here = c.last_opening.ensures.here })) c.args.content.now in
+    (subst (λ x. IsLastBefore x c.span-end.result.end c.last_opening-at.result) c.bytes.ensures (record { last = c.last_opening-at.ensures.last; here = c.last_opening-at.ensures.here })) c.args.content.now in
     subst (λ all. OnOk c.add.result (c.add.new.self ≡ c.args.pieces.now ++ all)) (sym placed) c.add.ensures.ok
