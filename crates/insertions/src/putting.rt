@@ -38,15 +38,16 @@ pub fn inside(
 ) -> Result<(), OutOfMemory>
     requires has { Has doc element }
     requires element { option_map kind_of (node_in doc element) ≡ Some Kind.Element }
-    requires behind { last_place pieces.old.list.items ≤ first_place (placed_inside content.now (path_in doc element) (bytes_in doc)) }
-    ensures ok { OnOk result (pieces.new.list.items ≡ pieces.old.list.items ++ placed_inside content.now (path_in doc.entry element) (bytes_in doc.entry)) }
-    ensures err { OnErr result (pieces.new.list.items ≡ pieces.old.list.items) }
+    requires behind { last_place pieces.old ≤ first_place (placed_inside content.now (path_in doc element) (bytes_in doc)) }
+    ensures ok { OnOk result (pieces.new ≡ pieces.old ++ placed_inside content.now (path_in doc.entry element) (bytes_in doc.entry)) }
+    ensures err { OnErr result (pieces.new ≡ pieces.old) }
 {
     let end = doc.span(element).end;
     if doc.start_tag(element).end == end {
         pieces.open(end, content, doc.name_text(element).as_bytes())
     } else {
-        pieces.add(last_opening(doc.bytes(), end), content)
+        let at = last_opening(doc.bytes(), end);
+        pieces.add(at, content)
     }
 }
 

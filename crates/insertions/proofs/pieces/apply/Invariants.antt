@@ -5,6 +5,6 @@ use Rattle.insertions.proofs.pieces.apply.Given as goal
 
 -- what is left goes behind what is there
 abbrev pub invariant-loop-piece : goal.invariant-loop-piece
-invariant-loop-piece l = RiseFrom l.from (drop l.piece-index l.pieces.list.items)
-    × (last_from l.from (drop l.piece-index l.pieces.list.items) ≤ length l.bytes)
-    × (l.new ++ copied l.from (drop l.piece-index l.pieces.list.items) l.bytes ≡ copied 0 l.pieces.list.items l.bytes)
+invariant-loop-piece l = RiseFrom l.from (drop l.piece-index l.pieces)
+    × (last_from l.from (drop l.piece-index l.pieces) ≤ length l.bytes)
+    × (l.new ++ copied l.from (drop l.piece-index l.pieces) l.bytes ≡ copied 0 l.pieces l.bytes)

@@ -5,5 +5,5 @@ use Rattle.insertions.proofs.pieces.Insertions.open.Goals as goal
 
 pub add-result-requires : goal.add-result-requires
 add-result-requires c =
-    let last = ap last_place c.in_ok-push.ensures.ok ∙ last_next 0 c.args.self.now.list.items _ in
+    let last = ap last_place c.in_ok-push.ensures.ok ∙ last_next 0 c.args.self.now _ in
     subst (λ n. n ≤ c.args.end - 1) (sym last) (omega (arith, c.requires.end))
