@@ -10,7 +10,7 @@ use Rattle.signature_model.specs.Keeping.{MayTake, TakesItem}
 use Rattle.signature_model.proofs.ReadTakes.{read_takes_item}
 use Rattle.signature_model.proofs.StaysFree.{stays_free}
 use Rattle.signature_model.proofs.ItemCounted.{item_keeps_counted}
-use Rattle.attached_items.specs.Whole.{IsWholeItem}
+use Rattle.covered_items.specs.Whole.{IsWholeItem}
 use Rattle.attached_items.specs.ReadAgain.{ItemHasPartsAgain, ItemIsReadAgain}
 use Rattle.attached_items.proofs.ReadAs.{only_one, answers}
 use Rattle.attached_items.proofs.ValueAgain.{value_has_parts}

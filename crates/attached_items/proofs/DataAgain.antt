@@ -1,5 +1,6 @@
 -- A signature that has taken validation data has its parts again.
 use Rattle.std.proofs.Common.{◌≡◌, ℕ, Bool, true, false, cond, not, ◌+◌, List, [], ◌∷◌, ◌++◌, arith, refl, sym, ◌∙◌, ap, subst, codes, append_assoc}
+use Rattle.std.proofs.lemmas.Bool.{not-true}
 use Rattle.std.proofs.lemmas.List.{append-nil, map-append}
 use Rattle.std.proofs.lemmas.Grind.{flat_map-append}
 use Rattle.std.proofs.lemmas.List.Elements.{filter-append}
@@ -21,15 +22,15 @@ use Rattle.signature_model.specs.Covers.{IsFree}
 use Rattle.signature_model.specs.Fragments.{Data, prefixed, declaring, wrapped, stands_alone, data_fragment, content_of, with_item}
 use Rattle.signature_model.specs.Keeping.{IsSpot, IsSignature, TakesItem}
 use Rattle.signature_model.proofs.Standing.{Each}
-use Rattle.signature_model.proofs.Lists.{not_both, both, neither, each_append, each_map, each_filter, each_flat, flat_same, filter_same}
+use Rattle.signature_model.proofs.Lists.{both, neither, each_append, each_map, each_filter, each_flat, flat_same, filter_same}
 use Rattle.signature_model.proofs.Apart.{Apart, IsNamed, all_apart, named_apart}
 use Rattle.signature_model.proofs.References.{references_stay, references_named, transforms_stay, transforms_stand}
 use Rattle.signature_model.proofs.Covered.{signature_apart}
 use Rattle.signature_model.proofs.PropertyKept.{IsHeld}
 use Rattle.signature_model.proofs.PartsStay.{key_info_stays, method_stays, method_apart}
-use Rattle.signature_model.proofs.ReadTakes.{front_nothing, behind_nothing, map_nothing}
 use Rattle.signature_model.proofs.ItemKept.{put_at}
-use Rattle.signature_model.proofs.Plain.{content_plain}
+use Rattle.signature_model.proofs.Plain.{content_plain, none_and}
+use Rattle.signature_model.proofs.ShapeLines.{front_nothing, behind_nothing, map_nothing, lines_of, shape_of}
 use Rattle.covered_items.proofs.NewElements.{Stands, spot_below, held_stands, elements_stand, spots_from, stand_within}
 use Rattle.covered_items.proofs.NewHolders.{filter_without}
 use Rattle.covered_items.proofs.SignedPartsStay.{chain_stays, named_in, first_in, key_info_named, cert_stays, methods_stay}
@@ -37,9 +38,9 @@ use Rattle.attached_items.proofs.Inside.{Inside, held_inside, child_inside, insi
 use Rattle.covered_items.proofs.HoldingStays as words
 use Rattle.attached_items.proofs.LinesStay as lines
 use Rattle.attached_items.proofs.LinesStay.{value_line_stays}
-use Rattle.attached_items.proofs.ReadAs.{IsReadAs, read_as, reads, lines_of, shape_of}
-use Rattle.attached_items.specs.Whole.{AreWhole}
-use Rattle.covered_items.proofs.Lists.{nothing_both, paths_both, spots_of, kinds_of, none_of_each, each_of_none, each_front, each_behind}
+use Rattle.attached_items.proofs.ReadAs.{IsReadAs, read_as, reads}
+use Rattle.covered_items.specs.Whole.{AreWhole}
+use Rattle.covered_items.proofs.Lists.{paths_both, spots_of, kinds_of, none_of_each, each_of_none, each_front, each_behind}
 use Rattle.attached_items.proofs.DeepSpots.{Passes}
 use Rattle.covered_items.proofs.NewProperties.{no_stray, ManyProperties, many_properties}
 use Rattle.covered_items.proofs.DataCovers.{values_are_elements}
@@ -304,7 +305,7 @@ module _ (is_whole : DatumKind → List ℕ → Bool) (document added : Nodes) (
       ∙ ap (without_value new) (map-append (λ (datum : Datum). datum.spot) old_data new_data)
       ∙ ap paths (filter-append (λ spot. not (is_text_alone (held_at new spot.path))) v3 (datum_spots new_data))
       ∙ paths_both (filter (λ spot. not (is_text_alone (held_at new spot.path))) v3) (filter (λ spot. not (is_text_alone (held_at new spot.path))) (datum_spots new_data))
-      ∙ nothing_both _ _ (words.value_stays document added place v3 (to_apart v3 v3_inside) ∙ f3)
+      ∙ none_and _ _ (words.value_stays document added place v3 (to_apart v3 v3_inside) ∙ f3)
       (ap paths (none_of_each (λ spot. not (is_text_alone (held_at new spot.path))) (datum_spots new_data) new_alone)) in
       let n4 = ap (λ spots. with_stray_text new (filter (is_called (ds (codes "Transform"))) spots)) transforms_same
       ∙ words.stray_stays document added place v4 (all_apart document place (ds (codes "Transform")) name m.many.setting.setting.place_named m.many.setting.setting.other.transform v4 transforms_named) ∙ f4 in
@@ -312,7 +313,7 @@ module _ (is_whole : DatumKind → List ℕ → Bool) (document added : Nodes) (
       ∙ words.stray_stays document added place (digest_methods document (certificate_digest document signature))
       (all_apart document place (ds (codes "DigestMethod")) name m.many.setting.setting.place_named m.many.apart.digest_method (digest_methods document (certificate_digest document signature))
       (first_in document (ds (codes "DigestMethod")) (xades (codes "CertDigest")) (certificate_digest document signature) c.named)) ∙ f5 in
-      nothing_both _ _ (nothing_both _ _ (nothing_both _ _ (nothing_both _ _ (nothing_both _ _ n0 n1) n2) n3) n4) n5
+      none_and _ _ (none_and _ _ (none_and _ _ (none_and _ _ (none_and _ _ n0 n1) n2) n3) n4) n5
 
   -- Read values.
 
@@ -393,10 +394,6 @@ module _ (is_whole : DatumKind → List ℕ → Bool) (document added : Nodes) (
 
 -- By what stands in the document before.
 
-negated : (b : Bool) → not b ≡ true → b ≡ false
-negated true e = absurd (not_both (sym e))
-negated false e = refl
-
 pub new_material : (A : Type 0) (is_whole : DatumKind → List ℕ → Bool) (document : Nodes) (signature place : Spot) (certificates lists : List (List ℕ))
     → AreWhole is_whole Certificate certificates → AreWhole is_whole RevocationList lists → TakesItem document signature (Data certificates lists) → host document signature ≡ place ∷ []
     → ((content : Nodes) → NewMaterial is_whole document (content_of document signature (Data certificates lists)) signature place content → A) → A
@@ -405,7 +402,7 @@ new_material A is_whole document signature place certificates lists v w t h go =
     by_alone : (b : Bool) → stands_alone document signature ≡ b → A
     by_alone true e =
         let added : Nodes = content_of document signature (Data certificates lists) in
-        let none : has_values document signature ≡ false = negated (has_values document signature) (both (not (has_values document signature)) _ e).0 in
+        let none : has_values document signature ≡ false = not-true (has_values document signature) (both (not (has_values document signature)) _ e).0 in
         go _ (alone_material is_whole document added signature place certificates lists v w t.is_signature h t.free (content_plain document signature (Data certificates lists)) none
         (ap (λ b. wrapped document signature (data_fragment b certificates lists)) e))
     by_alone false e =

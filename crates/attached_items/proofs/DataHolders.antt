@@ -10,18 +10,18 @@ use Rattle.document_model.specs.Tree.{Nodes, Path, Element, no_nodes, ◌⨾◌}
 use Rattle.document_model.specs.Scopes.{Tag}
 use Rattle.signature_model.specs.Vocabulary.{xades}
 use Rattle.signature_model.specs.Base64.{skipping}
-use Rattle.signature_model.specs.Spots.{Spot, is_called, emptied_all, held_at, has_stray_text, is_text_alone, text_among, elements_in, called}
+use Rattle.signature_model.specs.Spots.{Spot, is_called, held_at, has_stray_text, is_text_alone, text_among, elements_in, called}
 use Rattle.signature_model.specs.Parts as parts
 use Rattle.signature_model.specs.Parts.{DatumKind, Datum, Certificate, RevocationList, PropertyKind, Material, kind_of, is_values, values_of, data_of_values, octets_in}
 use Rattle.signature_model.specs.Readable.{is_bad}
-use Rattle.signature_model.specs.Fragments.{prefixed, text, encoded, each, certificates_fragment, lists_fragment, ◌then◌}
+use Rattle.signature_model.specs.Fragments.{prefixed, encoded, each, certificates_fragment, lists_fragment, ◌then◌}
 use Rattle.signature_model.proofs.Standing.{Each}
 use Rattle.signature_model.proofs.Lists.{each_filter, each_map, each_flat}
 use Rattle.covered_items.proofs.NewElements.{Stands, spot_below, held_stands, elements_stand, child_there, AreElements, StandAll, spots_from, stand_within}
 use Rattle.covered_items.proofs.NewHolders.{declared}
-use Rattle.covered_items.proofs.StampFragments.{text_whole}
+use Rattle.covered_items.proofs.StampFragments.{text_whole, text_is_alone}
 use Rattle.covered_items.proofs.Base64ReadBack.{read_back}
-use Rattle.attached_items.specs.Whole.{AreWhole}
+use Rattle.covered_items.specs.Whole.{AreWhole}
 use Rattle.covered_items.proofs.NewProperties.{no_stray}
 
 abbrev pub crls : Nodes → Spot → List Spot
@@ -49,10 +49,6 @@ all_encoded name objects = each (λ octets. Element name [] (encoded octets) ⨾
 pub are_elements : (name : Name) (objects : List (List ℕ)) → AreElements (all_encoded name objects)
 are_elements name [] = tt
 are_elements name (octets ∷ objects) = are_elements name objects
-
-text_is_alone : (cs : List ℕ) → is_text_alone (emptied_all (text cs)) ≡ true
-text_is_alone [] = refl
-text_is_alone (c ∷ cs) = refl
 
 -- A datum that is read, and whole.
 pub record IsFine (is_whole : DatumKind → List ℕ → Bool) (d : Nodes) (datum : Datum) : Type 0 where

@@ -14,12 +14,13 @@ use Rattle.signature_model.proofs.Plain.{content_plain}
 use Rattle.covered_items.proofs.StampFragments.{signature_stamp_name, signature_stamp_attributes, archive_stamp_name, archive_stamp_attributes}
 use Rattle.attached_items.proofs.LinesStay as lines
 use Rattle.attached_items.proofs.LinesStay.{value_line_stays}
-use Rattle.attached_items.proofs.ReadAs.{IsReadAs, read_as, reads, lines_of, shape_of}
+use Rattle.attached_items.proofs.ReadAs.{IsReadAs, read_as, reads}
 use Rattle.covered_items.proofs.NewProperties.{ManyProperties, many_properties}
 use Rattle.attached_items.proofs.StampLines as stamps
 use Rattle.attached_items.proofs.StampLines.{StampKind, IsStampKind, stamp_content}
 use Rattle.attached_items.proofs.StampValues as values
 use Rattle.signature_model.specs.Readable.{HasParts}
+use Rattle.signature_model.proofs.ShapeLines.{lines_of, shape_of}
 
 -- The two kinds.
 

@@ -19,25 +19,22 @@ use Rattle.signature_model.specs.Parts as parts
 use Rattle.signature_model.specs.Parts.{DatumKind, Datum, method, references, certificate_digest, digest_methods, properties, stamps, stamp_method, token_elements, form_in, octets_in, is_values, is_validation_data, values_of, data_of_values, includes, key_certificates, transforms, signed_properties}
 use Rattle.signature_model.specs.Holding.{with_stray_text, further, lacking, not_one, without_value}
 use Rattle.signature_model.specs.Shape.{stamp_methods, form_line, is_in_stamp, stamp_line}
-use Rattle.signature_model.specs.Fragments.{text, encoded}
+use Rattle.signature_model.specs.Fragments.{encoded}
 use Rattle.signature_model.proofs.Standing.{Each}
 use Rattle.signature_model.proofs.Lists.{each_append, each_first, each_map, each_filter, each_flat, flat_same, filter_same}
 use Rattle.signature_model.proofs.Apart.{Apart, called_stay, elements_stay, form_stays}
-use Rattle.signature_model.proofs.ReadTakes.{front_nothing, behind_nothing, map_nothing}
 use Rattle.signature_model.proofs.PropertyKept.{IsHeld, held_apart}
 use Rattle.signature_model.proofs.PartsStay.{method_apart}
 use Rattle.covered_items.proofs.NewElements.{one_element, Stands, spot_below, held_stands, elements_stand, child_there}
-use Rattle.covered_items.proofs.StampFragments.{stamp_inner, token_name, method_name, method_attributes, method_read, text_whole}
+use Rattle.covered_items.proofs.StampFragments.{stamp_inner, token_name, method_name, method_attributes, method_read, text_whole, text_is_alone}
 use Rattle.covered_items.proofs.NewProperties.{ManyProperties}
 use Rattle.covered_items.proofs.NewHolders.{filter_behind, filter_without}
 use Rattle.covered_items.proofs.Base64ReadBack.{read_back}
 use Rattle.attached_items.proofs.Inside.{Inside, held_inside, filtered_inside, all_inside_apart}
 use Rattle.covered_items.proofs.HoldingStays as words
-use Rattle.covered_items.proofs.Lists.{nothing_both, paths_both}
-
-text_is_alone : (cs : List ℕ) → is_text_alone (emptied_all (text cs)) ≡ true
-text_is_alone [] = refl
-text_is_alone (c ∷ cs) = refl
+use Rattle.covered_items.proofs.Lists.{paths_both}
+use Rattle.signature_model.proofs.Plain.{none_and}
+use Rattle.signature_model.proofs.ShapeLines.{front_nothing, behind_nothing, map_nothing}
 
 -- A kind of time-stamp that is put in: its name and attributes, those of its token's element, and what is told by them wherever it stands.
 
@@ -127,7 +124,7 @@ module _ (kind : StampKind) (is : IsStampKind kind) (document : Nodes) (signatur
   pub stray_more : (xs ys : List Spot) → Each (Apart document place) xs → with_stray_text document xs ≡ [] → with_stray_text new ys ≡ [] → with_stray_text new (xs ++ ys) ≡ []
   stray_more xs ys a e f =
       ap paths (filter-append (λ spot. has_stray_text (held_at new spot.path)) xs ys) ∙ paths_both (filter (λ spot. has_stray_text (held_at new spot.path)) xs) _
-      ∙ nothing_both _ _ (words.stray_stays document added place xs a ∙ e) f
+      ∙ none_and _ _ (words.stray_stays document added place xs a ∙ e) f
 
   pub stray_in : (spot : Spot) → has_stray_text (held_at new spot.path) ≡ false → with_stray_text new (spot ∷ []) ≡ []
   stray_in spot e = ap (λ b. paths (cond b (spot ∷ []) [])) e
@@ -166,7 +163,7 @@ module _ (kind : StampKind) (is : IsStampKind kind) (document : Nodes) (signatur
       ∙ ap (λ spots. paths (filter (λ spot. is_none (form_in new spot)) spots)) (sym (append_assoc (method document signature) (stamp_methods document signature) (method_spot ∷ [])))
       ∙ ap paths (filter_without (λ spot. is_none (form_in new spot)) old method_spot formed)
       ∙ ap paths (old_same ∙ second_part) in
-      nothing_both _ _ t f
+      none_and _ _ t f
 
   -- Stamps: what a time-stamp holds.
 
@@ -178,7 +175,7 @@ module _ (kind : StampKind) (is : IsStampKind kind) (document : Nodes) (signatur
   further_again : (x : Expanded) → further document x (stamps document signature) ≡ [] → paths (drop 1 (called new x property)) ≡ [] → further new x (stamps new signature) ≡ []
   further_again x e f =
       ap (further new x) stamps_grow ∙ flat_map-append (λ p. paths (drop 1 (called new x p))) (stamps document signature) (property ∷ [])
-      ∙ nothing_both _ _ (words.further_stay document added place x (stamps document signature) stamps_apart ∙ e) (append-nil (paths (drop 1 (called new x property))) ∙ f)
+      ∙ none_and _ _ (words.further_stay document added place x (stamps document signature) stamps_apart ∙ e) (append-nil (paths (drop 1 (called new x property))) ∙ f)
 
   lacking_again : (x : Expanded) → lacking document x (stamps document signature) ≡ [] → is_empty (called new x property) ≡ false → lacking new x (stamps new signature) ≡ []
   lacking_again x e f =
@@ -207,7 +204,7 @@ module _ (kind : StampKind) (is : IsStampKind kind) (document : Nodes) (signatur
       let f1 = behind_nothing p0 p1 r1 in
       let n0 = ap (with_stray_text new) stamps_grow ∙ stray_more old (property ∷ []) stamps_apart f0 (stray_in property (ap has_stray_text property_held)) in
       let n1 = further_again m f1 (ap (λ spots. paths (drop 1 spots)) (kept (is_called m) false (is.no_method one.path one.tags one.number))) in
-      let n2 = nothing_both _ _ (lacking_again x (front_nothing (lacking document x old) (further document x old) f2) (ap (λ (spots : List Spot). is_empty spots) tokens))
+      let n2 = none_and _ _ (lacking_again x (front_nothing (lacking document x old) (further document x old) f2) (ap (λ (spots : List Spot). is_empty spots) tokens))
       (further_again x (behind_nothing (lacking document x old) (further document x old) f2) (ap (λ spots. paths (drop 1 spots)) tokens)) in
       let n3 : paths (filter (λ child. not (is_in_stamp child)) (flat_map (elements_in new) (stamps new signature))) ≡ [] =
       ap (λ spots. paths (filter (λ child. not (is_in_stamp child)) spots)) (flat_more (elements_in new) (elements_in document) (λ p a. elements_stay document added place p a))
@@ -225,7 +222,7 @@ module _ (kind : StampKind) (is : IsStampKind kind) (document : Nodes) (signatur
       ap (without_value new) (flat_more new_token_of token_of (λ p a. ap first (called_stay document added place x p a)) ∙ ap (λ more. flat_map token_of old ++ first more) tokens)
       ∙ ap paths (filter_without (λ spot. not (is_text_alone (held_at new spot.path))) (flat_map token_of old) token_spot valued)
       ∙ words.value_stays document added place (flat_map token_of old) tokens_apart ∙ f4 in
-      nothing_both _ _ (nothing_both _ _ (nothing_both _ _ (nothing_both _ _ n0 n1) n2) n3) n4
+      none_and _ _ (none_and _ _ (none_and _ _ (none_and _ _ n0 n1) n2) n3) n4
 
   -- No Include.
   pub include_again : includes new signature ≡ includes document signature

@@ -24,7 +24,6 @@ use Rattle.signature_model.proofs.Covered.{Setting}
 use Rattle.signature_model.proofs.PropertyKept.{IsPart}
 use Rattle.signature_model.proofs.Outer.{qualifying_stays, qualifying_apart, unsigned_stays, unsigned_apart, list_stays}
 use Rattle.signature_model.proofs.Hosts.{InnerNamed, list_inner}
-use Rattle.signature_model.proofs.ReadTakes.{front_nothing, not_nothing}
 use Rattle.signature_model.proofs.ItemKept.{put_at}
 use Rattle.covered_items.proofs.NewHolders.{IsApart, signed_stay}
 use Rattle.covered_items.proofs.SignedPartsStay.{chain_stays, named_in, first_in, key_info_named, signed_named, methods_stay, cert_stays}
@@ -32,15 +31,17 @@ use Rattle.signature_model.proofs.PartsStay.{key_info_stays, method_stays, metho
 use Rattle.covered_items.proofs.NewValue as value_in
 use Rattle.covered_items.proofs.NewValue.{alone_behind}
 use Rattle.covered_items.proofs.HoldingStays as words
-use Rattle.covered_items.proofs.Lists.{spots_of, kinds_of, nothing_both, each_of_none}
+use Rattle.covered_items.proofs.Lists.{spots_of, kinds_of, each_of_none}
+use Rattle.signature_model.proofs.Plain.{none_and}
 use Rattle.covered_items.proofs.PropertiesLine.{HolderSlots, ListSlots}
-use Rattle.attached_items.proofs.ReadAs.{IsReadAs, read_as, reads, lines_of, shape_of}
+use Rattle.attached_items.proofs.ReadAs.{IsReadAs, read_as, reads}
 use Rattle.attached_items.proofs.LinesStay as lines
 use Rattle.attached_items.proofs.DeepSpots.{Passes, Deep, deep_passes, properties_deep}
 use Rattle.attached_items.proofs.OldProperties as old
 use Rattle.signature_model.specs.Chains.{Handed}
 use Rattle.signature_model.specs.Octets.{value_octets, octets_at}
 use Rattle.signature_model.specs.Covers.{Signed, stamped_by, stamped}
+use Rattle.signature_model.proofs.ShapeLines.{front_nothing, not_nothing, lines_of, shape_of}
 use Rattle.attached_items.specs.ReadAgain.{ValueIsCoveredAlone}
 
 has_alone : (b : Bool) (spot : Spot) → paths (cond (not b) (spot ∷ []) []) ≡ [] → b ≡ true
@@ -279,7 +280,7 @@ value_has_parts is_whole document signature octets bytes takes has =
 no_stamps : (handed : Handed) (d : Nodes) (signature : Spot) (before spots : List Spot) → Each (λ spot. parts.is_stamp spot ≡ false) spots → stamped handed d signature before spots ≡ []
 no_stamps handed d signature before [] h = refl
 no_stamps handed d signature before (property ∷ spots) h =
-    nothing_both _ _ (by_kind (kind_of property) (token d property) (octets_at handed d signature before property) h.0) (no_stamps handed d signature (before ++ property ∷ []) spots h.1)
+    none_and _ _ (by_kind (kind_of property) (token d property) (octets_at handed d signature before property) h.0) (no_stamps handed d signature (before ++ property ∷ []) spots h.1)
   where
     by_kind : (kind : PropertyKind) (token octets : List ℕ) → parts.is_stamp_kind kind ≡ false → stamped_by kind token octets ≡ []
     by_kind SignatureStamp token octets e = absurd (not_both e)

@@ -12,7 +12,7 @@ use Rattle.signature_model.specs.Covers.{Signed, IsFree}
 use Rattle.signature_model.specs.Fragments.{Item, Value, place_of, with_item}
 use Rattle.signature_model.specs.Keeping.{IsSpot, MayTake, TakesItem}
 use Rattle.covered_items.specs.Entries.{entries_of}
-use Rattle.attached_items.specs.Whole.{IsWholeItem}
+use Rattle.covered_items.specs.Whole.{IsWholeItem}
 
 -- A signature with parts, of whatever other signatures the document has, has its parts again and is free again once it has taken a whole
 -- item.

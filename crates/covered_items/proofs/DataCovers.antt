@@ -13,8 +13,7 @@ use Rattle.signature_model.specs.Keeping.{TakesItem}
 use Rattle.signature_model.proofs.Standing.{Each}
 use Rattle.signature_model.proofs.PropertyKept.{setting_adds}
 use Rattle.signature_model.proofs.ItemKept.{put_at}
-use Rattle.signature_model.proofs.Plain.{content_plain}
-use Rattle.covered_items.proofs.Lists.{nothing_both}
+use Rattle.signature_model.proofs.Plain.{content_plain, none_and}
 use Rattle.covered_items.proofs.NewElements.{AreElements, spots_from}
 use Rattle.covered_items.proofs.NewProperties.{many_properties}
 
@@ -45,7 +44,7 @@ data_are_elements false certificates lists = tt
 nothing_stamped : (handed : Handed) (d : Nodes) (signature : Spot) (before spots : List Spot) → Each IsMaterial spots → stamped handed d signature before spots ≡ []
 nothing_stamped handed d signature before [] h = refl
 nothing_stamped handed d signature before (property ∷ spots) h =
-    nothing_both _ _ (ap (λ kind. stamped_by kind (token d property) (octets_at handed d signature before property)) h.0)
+    none_and _ _ (ap (λ kind. stamped_by kind (token d property) (octets_at handed d signature before property)) h.0)
     (nothing_stamped handed d signature (before ++ property ∷ []) spots h.1)
 
 cond_nothing : (b : Bool) (entries : List Entry) → entries ≡ [] → cond b entries [] ≡ []

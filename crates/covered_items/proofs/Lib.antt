@@ -12,3 +12,4 @@ pub mod NewValue
 pub mod ValueAdded
 pub mod DataCovers
 pub mod ItemCovers
+pub mod WholeBytes

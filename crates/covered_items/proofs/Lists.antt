@@ -6,7 +6,7 @@ use Rattle.signature_model.specs.Spots.{Spot, paths}
 use Rattle.signature_model.specs.Parts as parts
 use Rattle.signature_model.specs.Parts.{DatumKind, Datum}
 use Rattle.signature_model.proofs.Standing.{Each}
-use Rattle.signature_model.proofs.ReadTakes.{not_nothing}
+use Rattle.signature_model.proofs.ShapeLines.{not_nothing}
 
 pub none_of_each : {A : Type 0} (f : A → Bool) (xs : List A) → Each (λ x. f x ≡ false) xs → filter f xs ≡ []
 none_of_each f [] h = refl
@@ -30,9 +30,6 @@ each_behind P (x ∷ xs) ys h = each_behind P xs ys h.1
 
 -- Lists joined.
 
-pub nothing_both : {A : Type 0} (xs ys : List A) → xs ≡ [] → ys ≡ [] → xs ++ ys ≡ []
-nothing_both xs ys e f = λ i. e i ++ f i
-
 pub paths_both : (xs ys : List Spot) → paths (xs ++ ys) ≡ paths xs ++ paths ys
 paths_both xs ys = map-append (λ spot. spot.path) xs ys
 
@@ -45,3 +42,11 @@ spots_of P (datum ∷ all) h = (h.0, spots_of P all h.1)
 pub kinds_of : (P : Spot → Type 0) (kind : DatumKind) (spots : List Spot) → Each P spots → Each (λ (datum : Datum). P datum.spot) (parts.as_kind kind spots)
 kinds_of P kind [] h = tt
 kinds_of P kind (spot ∷ spots) h = (h.0, kinds_of P kind spots h.1)
+
+-- Equal lists have equal heads and tails.
+
+pub heads : {A : Type 0} {a b : A} {xs ys : List A} → a ∷ xs ≡ b ∷ ys → a ≡ b
+heads e = cc
+
+pub tails : {A : Type 0} {a b : A} {xs ys : List A} → a ∷ xs ≡ b ∷ ys → xs ≡ ys
+tails e = cc

@@ -15,7 +15,7 @@ use Rattle.signature_model.specs.Keeping.{IsSpot}
 use Rattle.signature_model.proofs.Outer.{qualifying_stays, qualifying_apart}
 use Rattle.signature_model.proofs.Covered.{Setting}
 use Rattle.signature_model.proofs.Apart.{called_in_stay}
-use Rattle.signature_model.proofs.ReadTakes.{not_nothing}
+use Rattle.signature_model.proofs.ShapeLines.{not_nothing}
 use Rattle.covered_items.proofs.NewElements.{one_element, new_spot, elements_with_one}
 
 -- The element into which content is put has another name than the Objects, and than what is read of KeyInfo, of the methods and of the

@@ -16,10 +16,11 @@ use Rattle.signature_model.specs.Shape.{properties_line}
 use Rattle.signature_model.proofs.Standing.{Each}
 use Rattle.signature_model.proofs.Lists.{not_both}
 use Rattle.signature_model.proofs.Apart.{Apart, all_apart}
-use Rattle.signature_model.proofs.ReadTakes.{not_nothing, front_nothing, behind_nothing}
 use Rattle.signature_model.proofs.PropertyKept.{PropertySetting}
 use Rattle.covered_items.proofs.SignedPartsStay.{signed_named}
-use Rattle.covered_items.proofs.Lists.{nothing_both, paths_both}
+use Rattle.covered_items.proofs.Lists.{paths_both}
+use Rattle.signature_model.proofs.Plain.{none_and}
+use Rattle.signature_model.proofs.ShapeLines.{not_nothing, front_nothing, behind_nothing}
 
 -- Stray text.
 
@@ -129,8 +130,8 @@ line_of d signature p =
     let u = unsigned d signature in
     let l = unsigned_signature d signature in
     let text : with_stray_text d (q ++ s ++ u ++ l) ≡ [] =
-    stray_both d (q ++ s ++ u) l ∙ nothing_both _ _ (stray_both d (q ++ s) u ∙ nothing_both _ _ (stray_both d q s ∙ nothing_both _ _ p.q_text p.s_text) p.u_text) p.l_text in
-    nothing_both _ _ (nothing_both _ _ (nothing_both _ _ text p.holder) p.id) p.list
+    stray_both d (q ++ s ++ u) l ∙ none_and _ _ (stray_both d (q ++ s) u ∙ none_and _ _ (stray_both d q s ∙ none_and _ _ p.q_text p.s_text) p.u_text) p.l_text in
+    none_and _ _ (none_and _ _ (none_and _ _ text p.holder) p.id) p.list
 
 -- the misfits of one holder
 pub one_holder : (d : Nodes) (slots : List Slot) (spots : List Spot) (spot : Spot) → spots ≡ spot ∷ [] → misfits d slots spots ≡ [] → misfits_among slots spot (elements_in d spot) ≡ []

@@ -1,5 +1,5 @@
 -- The fragments of time-stamps, as they are read where they stand.
-use Rattle.std.proofs.Common.{◌≡◌, ℕ, List, [], ◌∷◌, Some, refl, ◌∙◌, ap, codes}
+use Rattle.std.proofs.Common.{◌≡◌, ℕ, true, List, [], ◌∷◌, Some, refl, ◌∙◌, ap, codes}
 use Rattle.std.proofs.lemmas.List.{append-nil}
 use Rattle.std.specs.Prelude.{filter, unwrap_or, option_and_then}
 use Rattle.base64.specs.GeneralPurpose.{encode_of, IsBytes}
@@ -10,7 +10,7 @@ use Rattle.document_model.specs.Tree.{Nodes, Path, Element, no_nodes}
 use Rattle.document_model.specs.Scopes.{Tag}
 use Rattle.document_model.specs.Methods.{exclusive_name, form_named}
 use Rattle.signature_model.specs.Vocabulary.{ds, xades, ds_space, xades_space, xadesv141_space}
-use Rattle.signature_model.specs.Spots.{Spot, is_called, attribute, emptied_all, first, text_among}
+use Rattle.signature_model.specs.Spots.{Spot, is_called, attribute, emptied_all, first, text_among, is_text_alone}
 use Rattle.signature_model.specs.Base64.{skipping}
 use Rattle.signature_model.specs.Parts.{kind_of, SignatureStamp, ArchiveStamp, token, octets_or_none, stamp_form, form_in, form_or, plain_form, prefix_list}
 use Rattle.signature_model.specs.Octets.{next_form}
@@ -47,6 +47,10 @@ method_attributes = declaring (codes "ds") ds_space ∷ having (codes "Algorithm
 pub text_whole : (cs : List ℕ) → text_among (emptied_all (text cs)) ≡ cs
 text_whole [] = refl
 text_whole (c ∷ cs) = append-nil (c ∷ cs)
+
+pub text_is_alone : (cs : List ℕ) → is_text_alone (emptied_all (text cs)) ≡ true
+text_is_alone [] = refl
+text_is_alone (c ∷ cs) = refl
 
 -- what an element with a token reads as
 pub token_read : (document : Nodes) (spot : Spot) (name : Name) (attributes : List Attribute) (octets : List ℕ) → IsBytes octets

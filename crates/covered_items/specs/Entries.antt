@@ -9,7 +9,7 @@ use Rattle.signature_model.specs.Octets.{value_octets, next_octets}
 use Rattle.signature_model.specs.Covers.{Entry, Signed, Stamped, stamped, covers}
 use Rattle.signature_model.specs.Fragments.{Item, Value, Stamp, Data, Archive, with_item}
 use Rattle.signature_model.specs.Keeping.{TakesItem}
-use Rattle.covered_items.specs.Bytes.{HasBytes}
+use Rattle.covered_items.specs.Whole.{HasBytes}
 
 -- A value adds the octets that were to be signed, and behind them the time-stamps that a document without a value may hold; a time-stamp
 -- the octets that were to be stamped next; validation data nothing.

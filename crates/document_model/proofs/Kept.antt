@@ -13,7 +13,7 @@ use Rattle.document_model.specs.Canonical.{Rule, part_text, in_form, before_elem
 use Rattle.document_model.specs.Insertion.{IsWholeOrElement, SameIn, KeepsTexts, AreSignatures, KeepsTextsBeside}
 
 -- a node in front of others, where it is kept
-abbrev chosen : NodeSet → List Tag → Path → Node → Nodes → Nodes
+abbrev pub chosen : NodeSet → List Tag → Path → Node → Nodes → Nodes
 chosen set outer path node rest = cond (has_in set outer path node) (kept_node (has_in set) outer path node ⨾ rest) rest
 
 and_false : (a b : Bool) → a ≡ false → (a && b) ≡ false
@@ -200,7 +200,7 @@ part_same set added full (k ∷ path) (j ∷ host) outer (Instruction target con
 
 -- Nodes of the document.
 
-before_same : (added : Nodes) (host : Path) (j : ℕ) (document : Nodes) → before_element (in_nth j (with_last added host) document) ≡ before_element document
+pub before_same : (added : Nodes) (host : Path) (j : ℕ) (document : Nodes) → before_element (in_nth j (with_last added host) document) ≡ before_element document
 before_same added host j no_nodes = refl
 before_same added [] zero (Element name attributes inner ⨾ nodes) = refl
 before_same added [] zero (Text cs ⨾ nodes) = refl

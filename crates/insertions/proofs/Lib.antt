@@ -11,3 +11,10 @@ pub mod Opened
 pub mod Heights
 pub mod Added
 pub mod Law
+pub mod Spot
+pub mod Found
+pub mod WithAll
+pub mod PlacedAt
+pub mod PlacedPut
+pub mod ByCalls
+pub mod Grafts

@@ -1,12 +1,13 @@
 -- An item tells the kind that it was read by.
 use Rattle.std.proofs.Common.{◌≡◌, ℕ, List, [], ◌∷◌, Option, Some, None, refl, sym, ◌∙◌, ap, ◌⊎◌, inl, inr, cond, not, ◌&&◌, ◌||◌, nat_eq, codes}
 use Rattle.std.proofs.lemmas.Option.{none-some}
-use Rattle.std.specs.Prelude.{option_map, option_and_then}
+use Rattle.std.specs.Prelude.{option_and_then}
 use Rattle.document_model.specs.Characters.{between}
 use Rattle.document_model.specs.Names.{Name, name_of}
 use Rattle.document_model.specs.Items.{Attribute, Item, declaration, start_tag, empty_tag, end_tag, character, reference, cdata, comment, instruction, Kind, CommentKind, CdataKind, InstructionKind, EndTagKind, TagKind, ReferenceKind, CharacterKind, or_else, item_of, comment_of, cdata_of, instruction_of, declaration_of, end_tag_of, tag_of, reference_of, referred, character_of, pairs_of, without_space_behind}
-use Rattle.document_model.proofs.Joins.{bind_some, some_same, when_some}
+use Rattle.document_model.proofs.Joins.{bind_some, when_some}
 use Rattle.insertions.proofs.Quiet.{tag_text}
+use Rattle.insertions.proofs.Standing.{map_some}
 
 abbrev pub kind_of : Item → Kind
 kind_of declaration = InstructionKind
@@ -22,10 +23,6 @@ kind_of (instruction target content) = InstructionKind
 pub or_some : {A : Type 0} (x y : Option A) (a : A) → or_else x y ≡ Some a → (x ≡ Some a) ⊎ (y ≡ Some a)
 or_some None y a e = inr e
 or_some (Some b) y a e = inl e
-
-map_some : {A B : Type 0} (f : A → B) (x : Option A) (b : B) → option_map f x ≡ Some b → (a : A) × (x ≡ Some a) × (f a ≡ b)
-map_some f None b e = absurd (none-some b e)
-map_some f (Some a) b e = (a, refl, some_same (f a) b e)
 
 character_kind : (cs : List ℕ) (item : Item) → character_of cs ≡ Some item → kind_of item ≡ CharacterKind
 character_kind [] item e = absurd (none-some item e)

@@ -1,5 +1,5 @@
 -- The elements in whose scope an element stands are those that are open where it is closed.
-use Rattle.std.proofs.Common.{◌≡◌, ℕ, zero, suc, pred, ◌<◌, List, [], ◌∷◌, drop, Option, Some, None, refl, sym, ◌∙◌, ap, subst, subst₂, arith}
+use Rattle.std.proofs.Common.{◌≡◌, ℕ, zero, suc, pred, ◌<◌, List, [], ◌∷◌, drop, Option, Some, refl, sym, ◌∙◌, ap, subst, subst₂, arith}
 use Rattle.std.proofs.lemmas.Option.{none-some, same_Some}
 use Rattle.std.specs.Prelude.{option_map, option_and_then}
 use Rattle.std.specs.Option.{option_map_or}
@@ -16,6 +16,7 @@ use Rattle.doc_spans.proofs.Steps.{spine}
 use Rattle.doc_spans.proofs.Stays.{head, stays}
 use Rattle.insertions.specs.Content.{items_after}
 use Rattle.insertions.proofs.Closings.{end_path, same_tree, empty_path, below_changed, same_head}
+use Rattle.insertions.proofs.Standing.{map_some}
 
 -- the tags of the last nodes down to a depth
 abbrev pub last_tags : ℕ → Nodes → List Tag → List Tag
@@ -162,13 +163,9 @@ tags_stay : (d : ℕ) (x nodes : Nodes) (host : Path) → IsElementAt nodes host
 tags_stay d x nodes [] e = refl
 tags_stay d x nodes (k ∷ path) e = stay d x nodes k path e.0 [] e.1 e.2
 
-some_of_map : (o : Option Node) (m : Node) → option_map head o ≡ Some m → (node : Node) × (o ≡ Some node) × (head node ≡ m)
-some_of_map None m e = absurd (none-some m e)
-some_of_map (Some node) m e = (node, refl, same_Some (head node) m e)
-
 element_stays : (d : ℕ) (x nodes : Nodes) (host : Path) → IsElementAt nodes host → IsElementAt (grown d x nodes) host
 element_stays d x nodes host e =
-    let later = some_of_map (node_at (grown d x nodes) host) (head e.0) (stays d x nodes host e.0 e.1) in
+    let later = map_some head (node_at (grown d x nodes) host) (head e.0) (stays d x nodes host e.0 e.1) in
     (later.0, later.1, same_head e.0 later.0 (sym later.2) e.2)
 
 tags_later : (pieces : List Piece) (before : List Item) (host : Path) → IsElementAt (tree_after before) host → tags_at (tree_after (items_after pieces before)) host ≡ tags_at (tree_after before) host

@@ -1,5 +1,5 @@
 -- The bytes that have content in the element of a path: it is closed by one item.
-use Rattle.std.proofs.Common.{◌≡◌, ℕ, zero, suc, pred, ◌<◌, Bool, true, false, cond, ◌&&◌, List, [], ◌∷◌, ◌++◌, Option, refl, sym, ◌∙◌, ap, subst, subst₂, arith, inl, inr, append_assoc}
+use Rattle.std.proofs.Common.{◌≡◌, ℕ, zero, suc, pred, ◌<◌, Bool, true, false, cond, ◌&&◌, List, [], ◌∷◌, ◌++◌, Option, refl, sym, ◌∙◌, ap, subst, subst₂, arith, inl, inr, append_assoc, ◌+◌, length, length-append}
 use Rattle.std.proofs.lemmas.Bool.{and_parts}
 use Rattle.std.proofs.lemmas.List.{append-nil}
 use Rattle.std.specs.Option.{option_map_or}
@@ -17,7 +17,9 @@ use Rattle.doc_spans.specs.Marks.{items_of, Fits, Follow}
 use Rattle.doc_spans.proofs.Marks.{onto}
 use Rattle.doc_spans.proofs.Steps.{spine}
 use Rattle.insertions.specs.Content.{texts, items_after}
+use Rattle.insertions.proofs.Standing.{after_join}
 use Rattle.insertions.proofs.Closings.{end_path, same_tree, empty_path, closed_or_open}
+use Rattle.insertions.specs.Placed.{for_content, placed_in}
 
 not_before : (nodes : Nodes) → Before (pred (count nodes)) nodes → ⊥
 not_before no_nodes h = h
@@ -82,7 +84,7 @@ off_along : (host : Path) (pieces : List Piece) (before : List Item) → Off hos
 off_along host [] before o = o
 off_along host (piece ∷ pieces) before o = off_along host pieces (piece.item ∷ before) (off_after piece.item before host o)
 
-abbrev is_host : Path → List Item → Item → Bool
+abbrev pub is_host : Path → List Item → Item → Bool
 is_host host before item = may_close item && bytes_eq (path_of before item) host
 
 host_parts : (host : Path) (before : List Item) (item : Item) → is_host host before item ≡ true → (may_close item ≡ true) × (path_of before item ≡ host)
@@ -92,52 +94,109 @@ host_parts host before item e =
 is_the_host : (host : Path) (before : List Item) (item : Item) → may_close item ≡ true → path_of before item ≡ host → is_host host before item ≡ true
 is_the_host host before item may at = (λ i. may i && bytes_eq (at i) host) ∙ same_from host host refl
 
--- pieces behind the closing one
-pieces_off : (content : List ℕ) (host : Path) (before : List Item) (pieces : List Piece) → Off host (depth before) (tree_after before) → Follow (items_after pieces before)
-    → pieces_with content host before pieces ≡ texts pieces
-pieces_off content host before [] o h = refl
-pieces_off content host before (piece ∷ pieces) o h =
-    either (is_host host before piece.item) refl ∙ ap (λ x. piece.text ++ x) (pieces_off content host (piece.item ∷ before) pieces (off_after piece.item before host o) h)
-  where
-    either : (b : Bool) → is_host host before piece.item ≡ b
-        → cond (is_host host before piece.item) (with_content content piece.text piece.item) piece.text ++ pieces_with content host (piece.item ∷ before) pieces
-        ≡ piece.text ++ pieces_with content host (piece.item ∷ before) pieces
-    either true e = let parts = host_parts host before piece.item e in absurd (not_closing host piece.item before (follow_before (piece ∷ pieces) before h) o parts.0 parts.1)
-    either false e = ap (λ b. cond b (with_content content piece.text piece.item) piece.text ++ pieces_with content host (piece.item ∷ before) pieces) e
+-- no piece closes the element
+abbrev pub NoneCloses : Path → List Item → List Piece → Type 0
+NoneCloses host before [] = Unit {0}
+NoneCloses host before (piece ∷ pieces) = (is_host host before piece.item ≡ false) × NoneCloses host (piece.item ∷ before) pieces
 
--- all pieces
-pub pieces_spliced : (content : List ℕ) (host : Path) (before : List Item) (front : List Piece) (piece : Piece) (behind : List Piece)
-    → Follow (items_after (front ++ (piece ∷ behind)) before) → may_close piece.item ≡ true → path_of (items_after front before) piece.item ≡ host
-    → pieces_with content host before (front ++ (piece ∷ behind)) ≡ texts front ++ (with_content content piece.text piece.item ++ texts behind)
-pieces_spliced content host before [] piece behind h may at =
-    let f = follow_before behind (piece.item ∷ before) h in
-    ap (λ b. cond b (with_content content piece.text piece.item) piece.text ++ pieces_with content host (piece.item ∷ before) behind) (is_the_host host before piece.item may at)
-    ∙ ap (λ x. with_content content piece.text piece.item ++ x) (pieces_off content host (piece.item ∷ before) behind (closes_off host piece.item before f.0 f.1 may at) h)
-pieces_spliced content host before (first ∷ front) piece behind h may at =
-    either (is_host host before first.item) refl
-    ∙ ap (λ x. first.text ++ x) (pieces_spliced content host (first.item ∷ before) front piece behind h may at)
-    ∙ sym (append_assoc first.text (texts front) (with_content content piece.text piece.item ++ texts behind))
-  where
-    rest : List ℕ
-    rest = pieces_with content host (first.item ∷ before) (front ++ (piece ∷ behind))
+-- one does, and no other one
+pub record ClosedOnce (host : Path) (before : List Item) (front : List Piece) (piece : Piece) (behind : List Piece) : Type 0 where
+  pub none_in_front : NoneCloses host before front
+  pub here : is_host host (items_after front before) piece.item ≡ true
+  pub none_behind : NoneCloses host (piece.item ∷ items_after front before) behind
 
+either_way : (b : Bool) → (b ≡ true → ⊥) → b ≡ false
+either_way true h = absurd (h refl)
+either_way false h = refl
+
+none_behind : (host : Path) (before : List Item) (pieces : List Piece) → Off host (depth before) (tree_after before) → Follow (items_after pieces before) → NoneCloses host before pieces
+none_behind host before [] o h = tt
+none_behind host before (piece ∷ pieces) o h = (
+  either_way (is_host host before piece.item) (λ e.
+      let parts = host_parts host before piece.item e in not_closing host piece.item before (follow_before (piece ∷ pieces) before h) o parts.0 parts.1),
+  none_behind host (piece.item ∷ before) pieces (off_after piece.item before host o) h,
+)
+
+none_in_front : (host : Path) (before : List Item) (front : List Piece) (piece : Piece) (behind : List Piece) → Follow (items_after (front ++ (piece ∷ behind)) before)
+    → may_close piece.item ≡ true → path_of (items_after front before) piece.item ≡ host → NoneCloses host before front
+none_in_front host before [] piece behind h may at = tt
+none_in_front host before (first ∷ front) piece behind h may at =
+    (either_way (is_host host before first.item) twice, none_in_front host (first.item ∷ before) front piece behind h may at)
+  where
     twice : is_host host before first.item ≡ true → ⊥
     twice e =
         let parts = host_parts host before first.item e in
         let f = follow_before (front ++ (piece ∷ behind)) (first.item ∷ before) h in
         let o = closes_off host first.item before f.0 f.1 parts.0 parts.1 in
         let later : List Item = items_after front (first.item ∷ before) in
-        let g : Follow (items_after (piece ∷ behind) later) = subst Follow (joins front (first.item ∷ before)) h in
+        let g : Follow (items_after (piece ∷ behind) later) = subst Follow (after_join front (piece ∷ behind) (first.item ∷ before)) h in
         not_closing host piece.item later (follow_before (piece ∷ behind) later g) (off_along host front (first.item ∷ before) o) may at
-      where
-        joins : (p : List Piece) (b : List Item) → items_after (p ++ (piece ∷ behind)) b ≡ items_after (piece ∷ behind) (items_after p b)
-        joins [] b = refl
-        joins (x ∷ p) b = joins p (x.item ∷ b)
 
-    either : (b : Bool) → is_host host before first.item ≡ b
-        → cond (is_host host before first.item) (with_content content first.text first.item) first.text ++ rest ≡ first.text ++ rest
-    either true e = absurd (twice e)
-    either false e = ap (λ b. cond b (with_content content first.text first.item) first.text ++ rest) e
+pub closed_once : (host : Path) (before : List Item) (front : List Piece) (piece : Piece) (behind : List Piece) → Follow (items_after (front ++ (piece ∷ behind)) before)
+    → may_close piece.item ≡ true → path_of (items_after front before) piece.item ≡ host → ClosedOnce host before front piece behind
+closed_once host before front piece behind h may at =
+    let later : List Item = items_after front before in
+    let g : Follow (items_after behind (piece.item ∷ later)) = subst Follow (after_join front (piece ∷ behind) before) h in
+    let f = follow_before behind (piece.item ∷ later) g in
+    record {
+      none_in_front = none_in_front host before front piece behind h may at;
+      here = is_the_host host later piece.item may at;
+      none_behind = none_behind host (piece.item ∷ later) behind (closes_off host piece.item later f.0 f.1 may at) g;
+    }
+
+pieces_none : (content : List ℕ) (host : Path) (before : List Item) (pieces : List Piece) → NoneCloses host before pieces → pieces_with content host before pieces ≡ texts pieces
+pieces_none content host before [] n = refl
+pieces_none content host before (piece ∷ pieces) n =
+    (λ i. cond (n.0 i) (with_content content piece.text piece.item) piece.text ++ pieces_with content host (piece.item ∷ before) pieces)
+    ∙ ap (λ x. piece.text ++ x) (pieces_none content host (piece.item ∷ before) pieces n.1)
+
+pieces_once : (content : List ℕ) (host : Path) (before : List Item) (front : List Piece) (piece : Piece) (behind : List Piece)
+    → NoneCloses host before front → is_host host (items_after front before) piece.item ≡ true → NoneCloses host (piece.item ∷ items_after front before) behind
+    → pieces_with content host before (front ++ (piece ∷ behind)) ≡ texts front ++ (with_content content piece.text piece.item ++ texts behind)
+pieces_once content host before [] piece behind n here m =
+    (λ i. cond (here i) (with_content content piece.text piece.item) piece.text ++ pieces_with content host (piece.item ∷ before) behind)
+    ∙ ap (λ x. with_content content piece.text piece.item ++ x) (pieces_none content host (piece.item ∷ before) behind m)
+pieces_once content host before (first ∷ front) piece behind n here m =
+    (λ i. cond (n.0 i) (with_content content first.text first.item) first.text ++ pieces_with content host (first.item ∷ before) (front ++ (piece ∷ behind)))
+    ∙ ap (λ x. first.text ++ x) (pieces_once content host (first.item ∷ before) front piece behind n.1 here m)
+    ∙ sym (append_assoc first.text (texts front) (with_content content piece.text piece.item ++ texts behind))
+
+-- all pieces
+pub pieces_spliced : (content : List ℕ) (host : Path) (before : List Item) (front : List Piece) (piece : Piece) (behind : List Piece)
+    → Follow (items_after (front ++ (piece ∷ behind)) before) → may_close piece.item ≡ true → path_of (items_after front before) piece.item ≡ host
+    → pieces_with content host before (front ++ (piece ∷ behind)) ≡ texts front ++ (with_content content piece.text piece.item ++ texts behind)
+pieces_spliced content host before front piece behind h may at =
+    let once = closed_once host before front piece behind h may at in
+    pieces_once content host before front piece behind once.none_in_front once.here once.none_behind
+
+-- What is put in for the content.
+
+placed_none : (content : List ℕ) (host : Path) (at : ℕ) (before : List Item) (pieces : List Piece) → NoneCloses host before pieces → placed_in content host at before pieces ≡ []
+placed_none content host at before [] n = refl
+placed_none content host at before (piece ∷ pieces) n =
+    (λ i. cond (n.0 i) (for_content content at piece.text piece.item) [] ++ placed_in content host (at + length piece.text) (piece.item ∷ before) pieces)
+    ∙ placed_none content host (at + length piece.text) (piece.item ∷ before) pieces n.1
+
+placed_by : (content : List ℕ) (host : Path) (at : ℕ) (before : List Item) (front : List Piece) (piece : Piece) (behind : List Piece)
+    → NoneCloses host before front → is_host host (items_after front before) piece.item ≡ true → NoneCloses host (piece.item ∷ items_after front before) behind
+    → placed_in content host at before (front ++ (piece ∷ behind)) ≡ for_content content (at + length (texts front)) piece.text piece.item
+placed_by content host at before [] piece behind n here m =
+    (λ i. cond (here i) (for_content content at piece.text piece.item) [] ++ placed_in content host (at + length piece.text) (piece.item ∷ before) behind)
+    ∙ ap (λ x. for_content content at piece.text piece.item ++ x) (placed_none content host (at + length piece.text) (piece.item ∷ before) behind m)
+    ∙ append-nil (for_content content at piece.text piece.item)
+    ∙ ap (λ k. for_content content k piece.text piece.item) (let z : at ≡ at + 0 = omega arith in z)
+placed_by content host at before (first ∷ front) piece behind n here m =
+    (λ i. cond (n.0 i) (for_content content at first.text first.item) [] ++ placed_in content host (at + length first.text) (first.item ∷ before) (front ++ (piece ∷ behind)))
+    ∙ placed_by content host (at + length first.text) (first.item ∷ before) front piece behind n.1 here m
+    ∙ ap (λ k. for_content content k piece.text piece.item)
+    (let e = length-append first.text (texts front) in let z : at + length first.text + length (texts front) ≡ at + length (first.text ++ texts front) = omega (arith, e) in z)
+
+pub placed_once : (content : List ℕ) (host : Path) (at : ℕ) (before : List Item) (front : List Piece) (piece : Piece) (behind : List Piece)
+    → Follow (items_after (front ++ (piece ∷ behind)) before) → may_close piece.item ≡ true → path_of (items_after front before) piece.item ≡ host
+    → placed_in content host at before (front ++ (piece ∷ behind)) ≡ for_content content (at + length (texts front)) piece.text piece.item
+placed_once content host at before front piece behind h may there =
+    let once = closed_once host before front piece behind h may there in
+    placed_by content host at before front piece behind once.none_in_front once.here once.none_behind
 
 -- From the last piece to the first.
 

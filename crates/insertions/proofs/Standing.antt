@@ -1,12 +1,16 @@
 -- Pieces that stand one after another.
-use Rattle.std.proofs.Common.{◌≡◌, ℕ, Bool, true, false, List, [], ◌∷◌, ◌++◌, Some, refl, sym, ◌∙◌, ap, subst, append_assoc}
+use Rattle.std.proofs.Common.{◌≡◌, ℕ, Bool, true, false, List, [], ◌∷◌, ◌++◌, Some, refl, sym, ◌∙◌, ap, subst, append_assoc, Option, None}
 use Rattle.std.proofs.lemmas.Option.{none-some}
-use Rattle.std.specs.Prelude.{option_and_then}
+use Rattle.std.specs.Prelude.{option_and_then, option_map}
 use Rattle.document_model.specs.Items.{Item, Piece, piece_at, when}
 use Rattle.document_model.specs.Documents.{may_follow, legal}
 use Rattle.document_model.proofs.Joins.{bind_some, some_same, HasByte}
 use Rattle.insertions.specs.Content.{texts, items_after, Stand}
 use Rattle.insertions.proofs.PieceStays.{feeds, piece_stays}
+
+pub map_some : {A B : Type 0} (f : A → B) (x : Option A) (b : B) → option_map f x ≡ Some b → (a : A) × (x ≡ Some a) × (f a ≡ b)
+map_some f None b e = absurd (none-some b e)
+map_some f (Some a) b e = (a, refl, some_same (f a) b e)
 
 pub when_true : {A : Type 0} (b : Bool) (x y : A) → when b x ≡ Some y → (b ≡ true) × (x ≡ y)
 when_true true x y e = (refl, some_same x y e)

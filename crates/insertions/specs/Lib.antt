@@ -1,2 +1,4 @@
 pub mod Sizes
 pub mod Content
+pub mod Placed
+pub mod Live

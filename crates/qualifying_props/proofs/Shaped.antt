@@ -1,7 +1,8 @@
 -- What a signature without a fault in its shape has.
 use Rattle.std.proofs.Common.{◌≡◌, Bool, true, false, cond, not, ◌||◌, List, [], ◌∷◌, ◌++◌, Option, Some, None, refl, sym, ◌∙◌, ap, subst, codes}
+use Rattle.std.proofs.lemmas.Bool.{not-false, not-true}
 use Rattle.std.proofs.lemmas.Option.{none-some}
-use Rattle.std.specs.Prelude.{drop, filter, flat_map, map, is_none, option_map, IsSome}
+use Rattle.std.specs.Prelude.{drop, filter, flat_map, is_none, option_map, IsSome}
 use Rattle.std.specs.List.{list_any}
 use Rattle.document_model.specs.Characters.{is_empty}
 use Rattle.document_model.specs.Names.{Expanded}
@@ -12,38 +13,14 @@ use Rattle.signature_elements.specs.Standing.{spot_or_none}
 use Rattle.signature_model.specs.Vocabulary.{ds, xades, DigestKind}
 use Rattle.signature_model.specs.Spots.{Spot, is_called, attribute, called, called_in, elements_in, first, paths}
 use Rattle.signature_model.specs.Parts.{signed_info, value, key_info, method, host, objects, is_qualifying, qualifying_objects, qualifying, unsigned, unsigned_signature, signed_properties, signed_signature_properties, signing_certificate_property, signing_time, certificate_digest, digest_methods, digest_values, digest_kind, stamps, token_elements}
-use Rattle.signature_model.specs.Faults.{ShapeFault, first_fault, of_line}
-use Rattle.signature_model.specs.Faults as words
 use Rattle.signature_model.specs.Holding.{Slot, one, at_most_one, any_number, one_or_more, lacks_one, first_misfit, misfits, lacking, further, not_one, without_attribute, with_stray_text, without_octets, without_text, without_value}
-use Rattle.signature_model.specs.Shape.{or_first, points_to, id_of, parts_line, info_line, form_line, method_line, reference_line, qualifying_line, properties_line, covered_line, signed_line, data_object_line, key_line, value_line, stamp_line, values_line, shape_faults, is_in_stamp}
+use Rattle.signature_model.specs.Shape.{or_first, points_to, id_of, shape_faults, is_in_stamp}
 use Rattle.signature_model.proofs.Lists.{not_both, neither}
+use Rattle.signature_model.proofs.ShapeLines.{Lines, not_nothing, front_nothing, behind_nothing, map_nothing, none_first, lines_of}
 use Rattle.qualifying_props.specs.Nodes.{IsShaped}
 use Rattle.qualifying_props.specs.PartsOf.{cert_method}
 
 -- Lists.
-
-pub not_nothing : {A : Type 0} (x : A) (xs : List A) → x ∷ xs ≡ [] → ⊥
-not_nothing x xs e = not_both (sym (ap is_empty e))
-
-pub front_nothing : {A : Type 0} (xs ys : List A) → xs ++ ys ≡ [] → xs ≡ []
-front_nothing [] ys e = refl
-front_nothing (x ∷ xs) ys e = absurd (not_nothing x (xs ++ ys) e)
-
-pub behind_nothing : {A : Type 0} (xs ys : List A) → xs ++ ys ≡ [] → ys ≡ []
-behind_nothing [] ys e = e
-behind_nothing (x ∷ xs) ys e = absurd (not_nothing x (xs ++ ys) e)
-
-pub map_nothing : {A B : Type 0} (f : A → B) (xs : List A) → map f xs ≡ [] → xs ≡ []
-map_nothing f [] e = refl
-map_nothing f (x ∷ xs) e = absurd (not_nothing (f x) (map f xs) e)
-
-pub true_of_not : (b : Bool) → not b ≡ false → b ≡ true
-true_of_not true e = refl
-true_of_not false e = absurd (not_both e)
-
-false_of_not : (b : Bool) → not b ≡ true → b ≡ false
-false_of_not true e = absurd (not_both (sym e))
-false_of_not false e = refl
 
 -- a condition under which something would stand there doesn't hold
 no_branch : {A : Type 0} (b : Bool) (x : A) (xs others : List A) → cond b (x ∷ xs) others ≡ [] → b ≡ false
@@ -68,42 +45,7 @@ any_kept p (spot ∷ spots) e = by_test (p spot) (any_kept p spots) e
     by_test true more e' = refl
     by_test false more e' = more e'
 
--- The lines that are needed.
-record Lines (document : Nodes) (signature : Spot) : Type 0 where
-  parts : parts_line document signature ≡ []
-  info : info_line document signature ≡ []
-  qualifying : qualifying_line document signature ≡ []
-  properties : properties_line document signature ≡ []
-  signed : signed_line document signature ≡ []
-  stamp : stamp_line document signature ≡ []
-
-none_first : (faults : List ShapeFault) → first_fault faults ≡ None → faults ≡ []
-none_first [] e = refl
-none_first (fault ∷ faults) e = absurd (none-some _ (sym e))
-
-lines_of : (document : Nodes) (s : Spot) → shape_faults document s ≡ [] → Lines document s
-lines_of document s e =
-    let to_stamp = front_nothing _ (of_line words.Values (values_line document s)) e in
-    let to_value = front_nothing _ (of_line words.Stamp (stamp_line document s)) to_stamp in
-    let to_key = front_nothing _ (of_line words.Value (value_line document s)) to_value in
-    let to_data = front_nothing _ (of_line words.Key (key_line document s)) to_key in
-    let to_signed = front_nothing _ (of_line words.DataObject (data_object_line document s)) to_data in
-    let to_covered = front_nothing _ (of_line words.Signed (signed_line document s)) to_signed in
-    let to_properties = front_nothing _ (of_line words.Covered (covered_line document s)) to_covered in
-    let to_qualifying = front_nothing _ (of_line words.Properties (properties_line document s)) to_properties in
-    let to_reference = front_nothing _ (of_line words.Qualifying (qualifying_line document s)) to_qualifying in
-    let to_method = front_nothing _ (of_line words.Reference (reference_line document s)) to_reference in
-    let to_form = front_nothing _ (of_line words.Method (method_line document s)) to_method in
-    let to_info = front_nothing _ (of_line words.Form (form_line document s)) to_form in
-    let to_parts = front_nothing _ (of_line words.Info (info_line document s)) to_info in
-    record {
-      parts = map_nothing _ (parts_line document s) to_parts;
-      info = map_nothing _ (info_line document s) (behind_nothing _ (of_line words.Info (info_line document s)) to_info);
-      qualifying = map_nothing _ (qualifying_line document s) (behind_nothing _ (of_line words.Qualifying (qualifying_line document s)) to_qualifying);
-      properties = map_nothing _ (properties_line document s) (behind_nothing _ (of_line words.Properties (properties_line document s)) to_properties);
-      signed = map_nothing _ (signed_line document s) (behind_nothing _ (of_line words.Signed (signed_line document s)) to_signed);
-      stamp = map_nothing _ (stamp_line document s) (behind_nothing _ (of_line words.Stamp (stamp_line document s)) to_stamp);
-    }
+-- The lines.
 
 lines : (document : Nodes) (signature : Spot) → IsShaped document signature → Lines document signature
 lines document signature h = lines_of document signature (none_first (shape_faults document signature) h.none)
@@ -113,7 +55,7 @@ lines document signature h = lines_of document signature (none_first (shape_faul
 has_child : (document : Nodes) (name : Expanded) (holder : Spot) → not (list_any (is_called name) (elements_in document holder)) ≡ false
     → HasOne (first (called document name holder))
 has_child document name holder e =
-    first_of (called document name holder) (any_kept (is_called name) (elements_in document holder) (true_of_not (list_any (is_called name) (elements_in document holder)) e))
+    first_of (called document name holder) (any_kept (is_called name) (elements_in document holder) (not-false (list_any (is_called name) (elements_in document holder)) e))
 
 slots_full : (document : Nodes) (slots : List Slot) (holder : Spot) → misfits document slots (holder ∷ []) ≡ [] → lacks_one slots (elements_in document holder) ≡ false
 slots_full document slots holder e =
@@ -212,7 +154,7 @@ has_qualifying document signature h =
     let there = holders_there (is_empty holders) (objects document signature) signature (behind_nothing (with_stray_text document holders) _ to_first) in
     let object = first_of holders there in
     let passes = first_passes (is_qualifying document) (objects document signature) object.spot object.is in
-    let found = first_of (called document name object.spot) (false_of_not (is_empty (called document name object.spot)) passes) in
+    let found = first_of (called document name object.spot) (not-true (is_empty (called document name object.spot)) passes) in
     record { spot = found.spot; is = ap (λ spots. first (called_in document name spots)) object.is ∙ first_joined (called document name object.spot) ∙ found.is }
   where
     first_joined : (spots : List Spot) → first (spots ++ []) ≡ first spots

@@ -1,5 +1,6 @@
 -- A signature that is read holds whole objects.
-use Rattle.std.proofs.Common.{◌≡◌, ℕ, Bool, true, false, cond, not, List, [], ◌∷◌, ◌++◌, Option, Some, None, inl, inr, refl, sym, ◌∙◌, ap, subst, codes}
+use Rattle.std.proofs.Common.{◌≡◌, ℕ, Bool, true, false, cond, not, List, [], ◌∷◌, Option, Some, None, inl, inr, refl, sym, ◌∙◌, ap, subst, codes}
+use Rattle.std.proofs.lemmas.Bool.{not-false}
 use Rattle.std.proofs.lemmas.List.Elements.{All-nil, All-cons, All-append, All-same, All-head, All-tail}
 use Rattle.std.specs.Prelude.{filter, flat_map, map, IfSome, unwrap_or}
 use Rattle.std.specs.List.{All}
@@ -12,19 +13,20 @@ use Rattle.signature_elements.specs.Standing.{spot_of}
 use Rattle.signature_model.specs.Faults.{ShapeFault, first_fault, first_place}
 use Rattle.signature_model.specs.Parts.{Datum, DatumKind, Certificate, RevocationList, Token, as_kind, counted, data_of, data_of_values, values_of, includes, is_stamp, key_certificates, octets_in, octets_or_none, properties, stamps, token, token_elements}
 use Rattle.signature_model.specs.Parts as model
-use Rattle.signature_model.specs.Readable.{Answer, Read, Shape, Include, PropertyData, NoSignature, Several, answer, bad_data, by_data, by_include, by_shape, is_bad, only, read_parts}
+use Rattle.signature_model.specs.Readable.{Answer, Read, answer, bad_data, by_data, by_include, by_shape, is_bad, only, read_parts}
 use Rattle.signature_model.specs.Shape.{shape_faults}
 use Rattle.signature_model.specs.Spots.{Spot, called, called_in, first, is_called, paths}
 use Rattle.signature_model.specs.Vocabulary.{xades}
 use Rattle.signature_model.proofs.Lists.{not_both}
-use Rattle.qualifying_props.specs.Data.{all_octets, bad_places, octets_of}
+use Rattle.qualifying_props.specs.Data.{all_octets, bad_places}
 use Rattle.qualifying_props.specs.Nodes.{IsShaped}
-use Rattle.qualifying_props.specs.PartsOf.{AreParts, IsProperty, IsPropertyOf, key_octets, parts_of, token_of}
+use Rattle.qualifying_props.specs.PartsOf.{AreParts, IsProperty, IsPropertyOf}
 use Rattle.qualifying_props.specs.Shown.{Shown, ShownProperty}
 use Rattle.qualifying_props.specs.Whole.{is_whole, IsWhole}
 use Rattle.qualifying_props.specs.Wholes.{AreWhole, HoldsWhole, IsMaterial}
 use Rattle.qualifying_props.proofs.Reading.{all_octets-append, bad_places-append}
-use Rattle.qualifying_props.proofs.Shaped.{behind_nothing, front_nothing, map_nothing, no_stamp_lacks, not_nothing, true_of_not}
+use Rattle.signature_model.proofs.ShapeLines.{behind_nothing, front_nothing, map_nothing, not_nothing}
+use Rattle.qualifying_props.proofs.Shaped.{no_stamp_lacks}
 
 -- What no test keeps.
 
@@ -43,7 +45,7 @@ datum_whole document kind spot e = by_octets (octets_in document spot) e
   where
     by_octets : (o : Option (List ℕ)) → not (option_map_or (is_whole kind) o false) ≡ false → IsWhole kind (unwrap_or o [])
     by_octets None f = absurd (not_both f)
-    by_octets (Some octets) f = true_of_not (is_whole kind octets) f
+    by_octets (Some octets) f = not-false (is_whole kind octets) f
 
 -- Several of one kind.
 

@@ -14,16 +14,15 @@ use Rattle.doc_spans.specs.declared.documents.NodeId.{NodeId}
 use Rattle.doc_spans.specs.Seen.{document_in, path_in}
 use Rattle.signature_elements.specs.Standing.{spot_of}
 use Rattle.signature_model.specs.Chains.{Handed}
-use Rattle.signature_model.specs.Octets.{digest_octets}
+use Rattle.signature_model.specs.Octets.{digest_octets, has_its_digest}
 use Rattle.signature_model.specs.Parts as model
 use Rattle.signature_model.specs.Spots.{Spot}
 use Rattle.qualifying_props.proofs.Signing.{algorithm_is}
-use Rattle.qualifying_props.specs.Digests.{algorithm, digest, has_digest}
+use Rattle.qualifying_props.specs.Digests.{digest, has_digest}
 use Rattle.reference_chains.specs.declared.references.Reference.{Reference}
 use Rattle.signature_elements.specs.DigestKinds.{kind_in}
 use Rattle.reference_chains.specs.References.{IsReference}
 use Rattle.references.specs.declared.rows.Row.{Row}
-use Rattle.references.specs.Digests.{has_its_digest}
 use Rattle.references.specs.RefsOf.{reference_at, references_in, AreRefs, IsRow}
 use Rattle.references.specs.Shown.{Shown}
 
@@ -57,7 +56,7 @@ reference_spot doc refs i reference h e =
 -- the digest by the algorithm that a kind names
 pub digest_is : (doc : Doc) (row : Row) (handed : Handed) (signature : Path) (octets : List ℕ) → IsRow doc row
     → digest_octets handed (document_in doc) signature (spot_of doc row.reference.node) ≡ octets
-    → has_its_digest handed (document_in doc) signature (spot_of doc row.reference.node) ≡ has_digest row.kind row.value octets
+    → has_its_digest digest handed (document_in doc) signature (spot_of doc row.reference.node) ≡ has_digest row.kind row.value octets
 digest_is doc row handed signature octets h e =
     let document = document_in doc in
     let spot = spot_of doc row.reference.node in
@@ -89,7 +88,7 @@ pub digest_numbered : (doc : Doc) (refs : Shown) (k : ℕ) (handed : Handed) (oc
     → option_map (λ (row : Row). row.kind) (slice_get refs.rows (k - 1)) ≡ Some kind
     → option_map (λ (row : Row). row.value) (slice_get refs.rows (k - 1)) ≡ Some wanted
     → option_map (digest_octets handed (document_in doc) (path_in doc refs.signature)) (reference_at doc refs k) ≡ Some octets
-    → option_map (has_its_digest handed (document_in doc) (path_in doc refs.signature)) (reference_at doc refs k) ≡ Some (has_digest kind wanted octets)
+    → option_map (has_its_digest digest handed (document_in doc) (path_in doc refs.signature)) (reference_at doc refs k) ≡ Some (has_digest kind wanted octets)
 digest_numbered doc refs k handed octets wanted kind h e f g =
     let document = document_in doc in
     let path = path_in doc refs.signature in
@@ -98,6 +97,6 @@ digest_numbered doc refs k handed octets wanted kind h e f g =
     let spot = spot_of doc r.0.reference.node in
     let made : digest_octets handed document path spot ≡ octets = same_Some _ _ (sym (ap (option_map (digest_octets handed document path)) at) ∙ g) in
     let told : r.0.value ≡ wanted = same_Some _ _ (sym (ap (option_map (λ (row : Row). row.value)) r.1) ∙ f) in
-    ap (option_map (has_its_digest handed document path)) at
+    ap (option_map (has_its_digest digest handed document path)) at
     ∙ ap Some (digest_is doc r.0 handed path octets (all_get (IsRow doc) refs.rows (k - 1) r.0 h.each r.1) made
     ∙ ap (λ w. has_digest r.0.kind w octets) told ∙ ap (λ a. has_digest a wanted octets) r.2)

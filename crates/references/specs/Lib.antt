@@ -2,4 +2,3 @@ pub mod Shown
 pub mod RefsOf
 pub mod Found
 pub mod Answers
-pub mod Digests

@@ -2,9 +2,10 @@
 
 ghost use Rattle.std.specs.Prelude.{◌≡◌, ◌≤◌, length, Some, IfOk, option_map};
 ghost use Rattle.doc_spans.specs.Seen.{document_in, path_in};
+ghost use Rattle.qualifying_props.specs.Digests.{digest};
 ghost use Rattle.reference_chains.specs.HandedIn.{handed_in};
-ghost use Rattle.references.specs.Digests.{has_its_digest};
 ghost use Rattle.references.specs.RefsOf.{reference_at, AreRefs};
+ghost use Rattle.signature_model.specs.Octets.{has_its_digest};
 
 use crate::made_octets::octets;
 use crate::rows::Refs;
@@ -28,7 +29,7 @@ pub fn digest_ok(
 ) -> Result<bool, OutOfMemory>
     requires refs { AreRefs doc refs.now }
     requires number { (1 ≤ k) × (k ≤ length refs.now.rows) }
-    ensures { IfOk result (λ right. option_map (has_its_digest (handed_in externals.now) (document_in doc.entry) (path_in doc.entry refs.now.signature)) (reference_at doc.entry refs.now k) ≡ Some right) }
+    ensures { IfOk result (λ right. option_map (has_its_digest digest (handed_in externals.now) (document_in doc.entry) (path_in doc.entry refs.now.signature)) (reference_at doc.entry refs.now k) ≡ Some right) }
 {
     let octets = octets(alloc, doc, refs, k, externals, &PLAIN)?;
     Ok(has_digest(refs.digest_kind(k), refs.digest_value(k), octets.as_slice()))

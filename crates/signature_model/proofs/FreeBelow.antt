@@ -35,7 +35,7 @@ numbered path tags i (Instruction target content ⨾ nodes) = each_map (IsNew pa
 
 -- A place below the host whose first step is new isn't reached where the host isn't.
 
-within_more : (apex path rest : Path) → is_within apex path ≡ true → is_within apex (path ++ rest) ≡ true
+pub within_more : (apex path rest : Path) → is_within apex path ≡ true → is_within apex (path ++ rest) ≡ true
 within_more [] path rest e = refl
 within_more (k ∷ apex) [] rest e = absurd (not_both (sym e))
 within_more (k ∷ apex) (j ∷ path) rest e =
@@ -44,7 +44,7 @@ within_more (k ∷ apex) (j ∷ path) rest e =
     λ i. h.0 i && inner i
 
 -- an apex that is around such a place and not around the host would be new
-none_below : (path : Path) (k : ℕ) (node m : Node) → descend path node ≡ Some m → nth k (below m) ≡ None → (rest : Path)
+pub none_below : (path : Path) (k : ℕ) (node m : Node) → descend path node ≡ Some m → nth k (below m) ≡ None → (rest : Path)
     → option_and_then (descend (path ++ k ∷ rest)) (Some node) ≡ None
 none_below [] k node m e n rest = let same : node ≡ m = ap (λ o. option_map_or (λ x. x) o m) e in
     ap (λ x. option_and_then (descend rest) (nth k (below x))) same ∙ ap (option_and_then (descend rest)) n

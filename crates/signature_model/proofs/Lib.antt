@@ -17,6 +17,7 @@ pub mod Outer
 pub mod CountedStay
 pub mod FormsAgree
 pub mod CountedStand
+pub mod ShapeLines
 pub mod ReadTakes
 pub mod ItemCounted
 pub mod FreeBelow

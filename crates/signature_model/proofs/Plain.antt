@@ -43,7 +43,7 @@ none_once value path (a ∷ attributes) e =
     let h = neither (is_id_name a) (list_any is_id_name attributes) e in
     ap (λ b. cond b (path ∷ once_each value path attributes) (once_each value path attributes)) (no_identifier value a h.0) ∙ none_once value path attributes h.1
 
-none_and : {A : Type 0} (xs ys : List A) → xs ≡ [] → ys ≡ [] → xs ++ ys ≡ []
+pub none_and : {A : Type 0} (xs ys : List A) → xs ≡ [] → ys ≡ [] → xs ++ ys ≡ []
 none_and xs ys e f = λ i. e i ++ f i
 
 mutual

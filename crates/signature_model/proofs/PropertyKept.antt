@@ -1,5 +1,6 @@
 -- The law for properties: what the References, the value and earlier stamps cover stays.
 use Rattle.std.proofs.Common.{◌≡◌, ℕ, Bool, true, false, cond, not, List, [], ◌∷◌, ◌++◌, refl, sym, ◌∙◌, ap, codes, append_assoc, ◌==◌, ◌&&◌}
+use Rattle.std.proofs.lemmas.Bool.{not-true}
 use Rattle.std.proofs.lemmas.List.{append-nil}
 use Rattle.std.specs.Prelude.{filter, flat_map, encode_utf8_all, unwrap_or}
 use Rattle.std.specs.List.{list_any}
@@ -32,7 +33,7 @@ pub record Beside (document : Nodes) (place spot : Spot) : Type 0 where
   pub stands : IsSpot document spot
   pub beside : is_within spot.path place.path ≡ false
 
-off : (a b c : Bool) → a ≡ false → (a && b && c) ≡ false
+pub off : (a b c : Bool) → a ≡ false → (a && b && c) ≡ false
 off a b c e = rw e refl
 
 subtree_stays : (form : Form) (document added : Nodes) (place : Spot) → IsSpot document place → (spot : Spot) → Beside document place spot
@@ -79,14 +80,10 @@ named_beside document signature place b name d spot c = child_beside document si
 same_qualifying : (document : Nodes) (a b : Spot) → a.path ≡ b.path → a.tags ≡ b.tags → is_qualifying document a ≡ is_qualifying document b
 same_qualifying document a b p t = λ i. is_qualifying document (record { path = p i; tags = t i })
 
-negated : (b : Bool) → not b ≡ true → b ≡ false
-negated true e = absurd (not_both (sym e))
-negated false e = refl
-
 object_beside : (document : Nodes) (signature place : Spot) (b : Below document signature place) (spot : Spot)
     → IsPart document signature (ds (codes "Object")) spot × (not (is_qualifying document spot) ≡ true) → Beside document place spot
 object_beside document signature place b spot c = child_beside document signature place b spot c.0.0
-    (λ e. not_both (sym b.qualifies ∙ sym (same_qualifying document spot b.object e (same_tags document spot b.object c.0.0.stands b.is_child.stands e)) ∙ negated _ c.1))
+    (λ e. not_both (sym b.qualifies ∙ sym (same_qualifying document spot b.object e (same_tags document spot b.object c.0.0.stands b.is_child.stands e)) ∙ not-true _ c.1))
 
 parts_beside : (document : Nodes) (signature place : Spot) (b : Below document signature place) (name : Expanded) → same_expanded name (ds (codes "Object")) ≡ false
     → IsSpot document signature → Each (Beside document place) (first (called document name signature))

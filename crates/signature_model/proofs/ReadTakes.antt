@@ -1,7 +1,7 @@
 -- A document that is read has a signature with a value and a host.
 use Rattle.std.proofs.Common.{◌≡◌, ℕ, Bool, true, false, cond, not, ◌||◌, List, [], ◌∷◌, ◌++◌, Option, Some, None, refl, sym, ◌∙◌, ap, subst, codes}
-use Rattle.std.proofs.lemmas.Option.{none-some}
-use Rattle.std.specs.Prelude.{drop, filter, map}
+use Rattle.std.proofs.lemmas.Bool.{not-false, not-true}
+use Rattle.std.specs.Prelude.{drop, filter}
 use Rattle.std.specs.List.{list_any}
 use Rattle.document_model.specs.Characters.{is_empty}
 use Rattle.document_model.specs.Names.{Expanded}
@@ -9,10 +9,9 @@ use Rattle.document_model.specs.Tree.{Nodes, Path}
 use Rattle.signature_model.specs.Vocabulary.{ds, xades}
 use Rattle.signature_model.specs.Spots.{Spot, is_called, attribute, called, called_in, elements_in, first, paths}
 use Rattle.signature_model.specs.Parts.{DatumKind, counted, value, host, objects, is_qualifying, qualifying_objects, qualifying, unsigned, unsigned_signature, includes}
-use Rattle.signature_model.specs.Faults.{What, ShapeFault, first_fault, first_place, of_line}
-use Rattle.signature_model.specs.Faults as words
+use Rattle.signature_model.specs.Faults.{ShapeFault, first_fault, first_place}
 use Rattle.signature_model.specs.Holding.{Slot, one, any_number, lacks_one, first_misfit, misfits, further, without_attribute, with_stray_text}
-use Rattle.signature_model.specs.Shape.{or_first, points_to, id_of, parts_line, info_line, form_line, method_line, reference_line, qualifying_line, properties_line, covered_line, signed_line, data_object_line, key_line, value_line, stamp_line, values_line, shape_faults}
+use Rattle.signature_model.specs.Shape.{or_first, points_to, id_of, parts_line, qualifying_line, shape_faults}
 use Rattle.signature_model.specs.Readable.{Answer, Read, NoSignature, Several, Shape, Include, PropertyData, by_data, by_include, by_shape, bad_data, read_parts, only, answer}
 use Rattle.signature_model.specs.Covers.{IsFree}
 use Rattle.signature_model.specs.Fragments.{Item}
@@ -20,23 +19,9 @@ use Rattle.signature_model.specs.Keeping.{IsSignature, MayTake, TakesItem}
 use Rattle.signature_model.proofs.Standing.{Each}
 use Rattle.signature_model.proofs.Lists.{not_both, neither}
 use Rattle.signature_model.proofs.CountedStand.{counted_stand}
+use Rattle.signature_model.proofs.ShapeLines.{not_nothing, front_nothing, behind_nothing, none_first, lines_of}
 
 -- Lists.
-
-pub not_nothing : {A : Type 0} (x : A) (xs : List A) → x ∷ xs ≡ [] → ⊥
-not_nothing x xs e = not_both (sym (ap is_empty e))
-
-pub front_nothing : {A : Type 0} (xs ys : List A) → xs ++ ys ≡ [] → xs ≡ []
-front_nothing [] ys e = refl
-front_nothing (x ∷ xs) ys e = absurd (not_nothing x (xs ++ ys) e)
-
-pub behind_nothing : {A : Type 0} (xs ys : List A) → xs ++ ys ≡ [] → ys ≡ []
-behind_nothing [] ys e = e
-behind_nothing (x ∷ xs) ys e = absurd (not_nothing x (xs ++ ys) e)
-
-pub map_nothing : {A B : Type 0} (f : A → B) (xs : List A) → map f xs ≡ [] → xs ≡ []
-map_nothing f [] e = refl
-map_nothing f (x ∷ xs) e = absurd (not_nothing (f x) (map f xs) e)
 
 -- a list has a first element
 abbrev HasFirst : {A : Type 0} → List A → Type 0
@@ -73,14 +58,6 @@ last_first : {A : Type 0} (xs ys : List A) → HasFirst ys → HasFirst (xs ++ y
 last_first [] ys h = h
 last_first (x ∷ xs) ys h = (x, xs ++ ys, refl)
 
-true_of_not : (b : Bool) → not b ≡ false → b ≡ true
-true_of_not true e = refl
-true_of_not false e = absurd (not_both e)
-
-false_of_not : (b : Bool) → not b ≡ true → b ≡ false
-false_of_not true e = absurd (not_both (sym e))
-false_of_not false e = refl
-
 -- The answer.
 
 abbrev pub IsRead : Answer → Type 0
@@ -99,19 +76,15 @@ pub is_read : (a : Answer) (spot : Spot) → a ≡ Read spot → IsRead a
 is_read a spot e = subst IsRead (sym e) tt
 
 -- what is known of a signature that is read
-abbrev Passed : Spot → Spot → Option ShapeFault → Type 0
-Passed s signature fault = (s ≡ signature) × (fault ≡ None)
+abbrev pub Passed : Spot → Spot → Option ShapeFault → Option Path → Option Path → Type 0
+Passed s signature fault place next = (s ≡ signature) × (fault ≡ None) × (place ≡ None) × (next ≡ None)
 
-passed : (s signature : Spot) (fault : Option ShapeFault) (place next : Option Path)
-    → by_shape (by_include (by_data s next) place) fault ≡ Read signature → Passed s signature fault
-passed s signature None None None e = (ap (spot_or s) e, refl)
+pub passed : (s signature : Spot) (fault : Option ShapeFault) (place next : Option Path)
+    → by_shape (by_include (by_data s next) place) fault ≡ Read signature → Passed s signature fault place next
+passed s signature None None None e = (ap (spot_or s) e, refl, refl, refl)
 passed s signature None None (Some next) e = absurd (is_read (PropertyData next) signature e)
 passed s signature None (Some place) next e = absurd (is_read (Include place) signature e)
 passed s signature (Some fault) place next e = absurd (is_read (Shape fault.place fault.what) signature e)
-
-pub none_first : (faults : List ShapeFault) → first_fault faults ≡ None → faults ≡ []
-none_first [] e = refl
-none_first (fault ∷ faults) e = absurd (none-some _ (sym e))
 
 -- the lines of the shape that are needed
 pub record HasLines (document : Nodes) (signature : Spot) : Type 0 where
@@ -119,34 +92,14 @@ pub record HasLines (document : Nodes) (signature : Spot) : Type 0 where
   pub parts : parts_line document signature ≡ []
   pub qualifying : qualifying_line document signature ≡ []
 
-lines_of : (document : Nodes) (s signature : Spot) → IsSignature document s → s ≡ signature → shape_faults document s ≡ [] → HasLines document signature
-lines_of document s signature h same e =
-    let to_stamp = front_nothing _ (of_line words.Values (values_line document s)) e in
-    let to_value = front_nothing _ (of_line words.Stamp (stamp_line document s)) to_stamp in
-    let to_key = front_nothing _ (of_line words.Value (value_line document s)) to_value in
-    let to_data = front_nothing _ (of_line words.Key (key_line document s)) to_key in
-    let to_signed = front_nothing _ (of_line words.DataObject (data_object_line document s)) to_data in
-    let to_covered = front_nothing _ (of_line words.Signed (signed_line document s)) to_signed in
-    let to_properties = front_nothing _ (of_line words.Covered (covered_line document s)) to_covered in
-    let to_qualifying = front_nothing _ (of_line words.Properties (properties_line document s)) to_properties in
-    let to_reference = front_nothing _ (of_line words.Qualifying (qualifying_line document s)) to_qualifying in
-    let to_method = front_nothing _ (of_line words.Reference (reference_line document s)) to_reference in
-    let to_form = front_nothing _ (of_line words.Method (method_line document s)) to_method in
-    let to_info = front_nothing _ (of_line words.Form (form_line document s)) to_form in
-    let to_parts = front_nothing _ (of_line words.Info (info_line document s)) to_info in
-    subst (HasLines document) same (record {
-      is_signature = h;
-      parts = map_nothing _ (parts_line document s) to_parts;
-      qualifying = map_nothing _ (qualifying_line document s) (behind_nothing _ (of_line words.Qualifying (qualifying_line document s)) to_qualifying);
-    })
-
 of_only : (is_whole : DatumKind → List ℕ → Bool) (document : Nodes) (signature : Spot) (signatures : List Spot) → Each (IsSignature document) signatures
     → only (read_parts is_whole document) signatures ≡ Read signature → HasLines document signature
 of_only is_whole document signature [] h e = absurd (is_read NoSignature signature e)
 of_only is_whole document signature (s ∷ next ∷ signatures) h e = absurd (is_read Several signature e)
 of_only is_whole document signature (s ∷ []) h e =
     let p = passed s signature (first_fault (shape_faults document s)) (first_place (paths (includes document s))) (first_place (bad_data is_whole document s)) e in
-    lines_of document s signature h.0 p.0 (none_first (shape_faults document s) p.1)
+    let lines = lines_of document s (none_first (shape_faults document s) p.1) in
+    subst (HasLines document) p.0 (record { is_signature = h.0; parts = lines.parts; qualifying = lines.qualifying })
 
 -- The value and the host.
 
@@ -166,7 +119,7 @@ value_of document signature e =
     let behind = (neither _ _ lacks).1 in
     let missing = (neither _ _ behind).0 in
     one_first (called document (ds (codes "SignatureValue")) signature)
-    (any_first (is_called (ds (codes "SignatureValue"))) children (true_of_not (list_any (is_called (ds (codes "SignatureValue"))) children) missing))
+    (any_first (is_called (ds (codes "SignatureValue"))) children (not-false (list_any (is_called (ds (codes "SignatureValue"))) children) missing))
 
 holders_there : (b : Bool) (objects : List Spot) (signature : Spot) → cond b (or_first objects signature) [] ≡ [] → b ≡ false
 holders_there true [] signature e = absurd (not_nothing signature.path [] e)
@@ -189,7 +142,7 @@ qualifying_of document signature e =
     let there = holders_there (is_empty holders) (objects document signature) signature (behind_nothing (with_stray_text document holders) _ to_none) in
     let h = has_first holders there in
     let q = has_first (called document name h.0)
-    (false_of_not (is_empty (called document name h.0)) (first_passes (is_qualifying document) (objects document signature) h.0 h.1 h.2)) in
+    (not-true (is_empty (called document name h.0)) (first_passes (is_qualifying document) (objects document signature) h.0 h.1 h.2)) in
     (q.0, [], ap (λ spots. first (called_in document name (first spots))) h.2 ∙ ap (λ spots. first (spots ++ [])) q.2)
 
 host_of : (document : Nodes) (signature : Spot) → qualifying_line document signature ≡ [] → (place : Spot) × (host document signature ≡ place ∷ [])

@@ -1,11 +1,12 @@
--- The octets that References, the value and stamps cover: XML Signature 1.1, "The Reference Processing Model" and "Core Generation";
--- EN 319 132-1, clauses 5.3 and 5.5.2.
-use Rattle.std.specs.Prelude.{ℕ, false, List, [], ◌++◌, flat_map, Option, Some, None}
+-- The octets that References, the value and stamps cover: XML Signature 1.1, "The Reference Processing Model", "Core Generation" and
+-- "Reference Validation"; EN 319 132-1, clauses 5.3 and 5.5.2.
+use Rattle.std.specs.Prelude.{ℕ, Bool, false, List, [], ◌∷◌, ◌++◌, flat_map, Option, Some, None}
 use Rattle.document_model.specs.Tree.{Nodes, Path}
 use Rattle.document_model.specs.NodeSets.{NodeSet, subtree}
 use Rattle.document_model.specs.Canonical.{Form, Exclusive, octets_of}
+use Rattle.signature_model.specs.Vocabulary.{DigestKind}
 use Rattle.signature_model.specs.Spots.{Spot}
-use Rattle.signature_model.specs.Parts.{signed_info, value, key_info, other_objects, method, references, properties, plain_form, form_or, stamp_form, PropertyKind, SignatureStamp, ArchiveStamp, Material, Passed, kind_of}
+use Rattle.signature_model.specs.Parts.{signed_info, value, key_info, other_objects, method, references, properties, digest_kind, digest_methods, digest_values, has_digest, octets_or_none, plain_form, form_or, stamp_form, PropertyKind, SignatureStamp, ArchiveStamp, Material, Passed, kind_of}
 use Rattle.signature_model.specs.Chains.{Handed, Chain, Meaning, Set, Octets, NoMeaning, place, chain, node_set, handed_in, made_of_set, made_of_octets}
 
 -- the meaning of a Reference: what its chain makes of its nodes, or of the octets handed in
@@ -31,6 +32,12 @@ reference_octets form handed document signature reference = octets_by form docum
 
 abbrev pub digest_octets : Handed → Nodes → Path → Spot → List ℕ
 digest_octets handed document signature reference = reference_octets plain_form handed document signature reference
+
+-- whether they have the digest that the Reference tells
+abbrev pub has_its_digest : (DigestKind → List ℕ → List ℕ) → Handed → Nodes → Path → Spot → Bool
+has_its_digest digest handed document signature reference =
+    has_digest digest (digest_kind (digest_methods document (reference ∷ []))) (octets_or_none document (digest_values document (reference ∷ [])))
+    (digest_octets handed document signature reference)
 
 -- the texts of elements as subtrees, joined
 abbrev pub subtree_octets : Form → Nodes → Spot → List ℕ

@@ -1,4 +1,4 @@
-use Rattle.std.proofs.Common.{false, ◌&&◌, ◌||◌, ap, sym, ◌∙◌}
+use Rattle.std.proofs.Common.{◌&&◌, ◌||◌, ap, sym, ◌∙◌}
 use Rattle.doc_spans.specs.declared.documents.NodeId.{NodeId}
 use Rattle.doc_spans.specs.Seen.{document_in, path_in}
 use Rattle.signature_elements.specs.Standing.{spot_of}

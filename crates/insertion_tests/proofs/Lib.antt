@@ -1,0 +1,2 @@
+pub mod EmptyElement
+mod Examples
