@@ -14,6 +14,3 @@ mod reading;
 pub use fault::PolicyFault;
 pub use policy::Policy;
 pub use reading::read_policy;
-
-#[cfg(test)]
-mod tests;

@@ -4,11 +4,13 @@
 mod fault;
 mod parts;
 mod policy;
+mod signed_anew;
 mod stamps;
 mod times;
 
 pub use fault::CaseFault;
 pub use parts::{put_certificate, put_list};
-pub use policy::trusting;
+pub use policy::{policy_of, trusting};
+pub use signed_anew::{certificate_anew, list_anew, token_anew};
 pub use stamps::{put_stamp, put_token};
 pub use times::earliest_times;

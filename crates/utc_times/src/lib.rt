@@ -145,6 +145,3 @@ pub fn time_text(seconds: i64) -> [u8; 20]
         (rest % 60) as u8,
     )
 }
-
-#[cfg(test)]
-mod tests;
