@@ -1,5 +1,5 @@
 -- The prepared signature is such nodes.
-use Rattle.std.proofs.Common.{◌≡◌, ℕ, zero, suc, ◌/◌, ◌%◌, ◌<◌, Bool, true, false, cond, not, ◌&&◌, List, [], ◌∷◌, ◌++◌, refl, sym, ap, subst, arith, nat_eq, codes}
+use Rattle.std.proofs.Common.{◌≡◌, ℕ, zero, suc, ◌/◌, ◌%◌, ◌<◌, Bool, true, false, cond, not, ◌&&◌, List, [], ◌∷◌, ◌++◌, None, refl, sym, ap, subst, arith, nat_eq, codes}
 use Rattle.std.proofs.lemmas.Bool.{and_from}
 use Rattle.std.proofs.lemmas.Bool.Decides.{nat_tests}
 use Rattle.std.specs.List.{list_all}
@@ -9,12 +9,12 @@ use Rattle.document_model.specs.Characters.{is_empty}
 use Rattle.document_model.specs.Items.{Attribute}
 use Rattle.document_model.specs.Tree.{Nodes, Path, no_nodes, joined, put_last}
 use Rattle.document_model.specs.Scopes.{Tag, is_sound, declared_space, tags_at}
-use Rattle.document_model.specs.Documents.{document_of}
+use Rattle.document_model.specs.Documents.{document_of, fault}
 use Rattle.document_model.specs.Insertion.{put_inside}
 use Rattle.document_model.specs.Methods.{exclusive_name}
 use Rattle.signature_model.specs.Vocabulary.{DigestKind, digest_name, ds_space, xades_space, enveloped_name, signed_properties_type, fragment}
 use Rattle.signature_model.specs.Vocabulary.{Sha256, Sha384, Sha512}
-use Rattle.signature_model.specs.Chains.{Place, Document, Named, External, place_named, is_external}
+use Rattle.signature_model.specs.Chains.{Place, Document, Named, External, place_named, is_external, Handed}
 use Rattle.signature_model.specs.Fragments.{prefixed, having, declaring, ds_element, xades_element, text, encoded, each, written_octets}
 use Rattle.signature_model.specs.Prepared.{Draft, algorithm, digest_nodes, reference_id, enveloped_transform, transform_nodes, reference_nodes, references_from, properties_id, last_reference, mime_type, formats_from, first_certificate, properties_nodes, signature_nodes, prepared_nodes, root_path}
 use Rattle.insertions.specs.Content.{IsContent, nodes_of_content, SpellsWithin}
@@ -23,7 +23,7 @@ use Rattle.insertions.proofs.Quiet.{all_both}
 use Rattle.insertion_fragments.specs.Fragment.{may_write, IsSimpleName, IsFragment}
 use Rattle.base64.specs.GeneralPurpose.{IsBytes}
 use Rattle.covered_items.specs.Whole.{EachBytes}
-use Rattle.insertion_fragments.specs.Drafts.{EachWritable, IsWritable, PreparedIsSpelled}
+use Rattle.insertion_fragments.specs.Drafts.{EachWritable, IsWritable, PreparedIsSpelled, GivesBytes}
 use Rattle.insertion_fragments.proofs.DocumentElement.{root_is}
 use Rattle.insertion_fragments.proofs.WrittenNodes.{are_content}
 use Rattle.insertion_fragments.proofs.ItemFragments.{simple_name, encoded_fragment, text_fragment, own_first}
@@ -228,14 +228,20 @@ signature_is tags digest digest_of value draft w b c v =
 abbrev Legal : List ℕ → Nodes → List Tag → Type 0
 Legal written nodes tags = (c : IsContent tags written) × (nodes_of_content c ≡ nodes)
 
+-- the prepared signature is legal content of the document element
+pub prepared_legal : (digest : DigestKind → List ℕ → List ℕ) (handed : Handed) (draft : Draft) (bytes : List ℕ) → GivesBytes digest → IsWritable draft → fault bytes ≡ None
+    → Legal (written_octets (prepared_nodes digest handed (document_of bytes) draft)) (prepared_nodes digest handed (document_of bytes) draft) (tags_at (document_of bytes) (root_path 0 (document_of bytes)))
+prepared_legal digest handed draft bytes b w none =
+    let document : Nodes = document_of bytes in
+    let nodes : Nodes = prepared_nodes digest handed document draft in
+    let first = own_first document (root_path 0 document) (root_is bytes none) in
+    let fragment_is : IsFragment (first.0 ∷ first.1) nodes = signature_is (first.0 ∷ first.1) _ _ _ draft w (b draft.digest) (λ uri. b draft.digest _) (b draft.digest _) in
+    subst (Legal (written_octets nodes) nodes) (sym first.2) (are_content first.0 first.1 nodes fragment_is)
+
 pub prepared_spelled : PreparedIsSpelled
 prepared_spelled digest handed draft bytes b w none =
-    let e = root_is bytes none in
     let document : Nodes = document_of bytes in
     let path : Path = root_path 0 document in
-    let nodes : Nodes = prepared_nodes digest handed document draft in
-    let written : List ℕ = written_octets nodes in
-    let first = own_first document path e in
-    let fragment_is : IsFragment (first.0 ∷ first.1) nodes = signature_is (first.0 ∷ first.1) _ _ _ draft w (b draft.digest) (λ uri. b draft.digest _) (b draft.digest _) in
-    let legal : Legal written nodes (tags_at document path) = subst (Legal written nodes) (sym first.2) (are_content first.0 first.1 nodes fragment_is) in
-    subst (λ n. SpellsWithin (put_inside written path bytes) (put_last n path document)) legal.1 (content_spelled written bytes path none e legal.0)
+    let written : List ℕ = written_octets (prepared_nodes digest handed document draft) in
+    let legal = prepared_legal digest handed draft bytes b w none in
+    subst (λ n. SpellsWithin (put_inside written path bytes) (put_last n path document)) legal.1 (content_spelled written bytes path none (root_is bytes none) legal.0)

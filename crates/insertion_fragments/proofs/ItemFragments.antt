@@ -59,7 +59,7 @@ padding_simple : (n : ℕ) → list_all is_simple (replicate n 61) ≡ true
 padding_simple zero = refl
 padding_simple (suc n) = padding_simple n
 
-base64_simple : (m : List ℕ) → IsBytes m → list_all is_simple (encode_of standard m) ≡ true
+pub base64_simple : (m : List ℕ) → IsBytes m → list_all is_simple (encode_of standard m) ≡ true
 base64_simple m h = all_both is_simple (encode_symbols standard.encode_table m) (replicate (padding_len (length m)) 61) (symbols_simple m h) (padding_simple (padding_len (length m)))
 
 pub text_fragment : (tags : List Tag) (cs : List ℕ) → list_all is_simple cs ≡ true → IsFragment tags (text cs)

@@ -52,7 +52,7 @@ letters_text : (cs : List ℕ) → texts (map letter cs) ≡ cs
 letters_text [] = refl
 letters_text (c ∷ cs) = ap (λ x. c ∷ x) (letters_text cs)
 
-all_fine : (cs : List ℕ) → list_all is_simple cs ≡ true → encode_utf8_all cs ≡ cs
+pub all_fine : (cs : List ℕ) → list_all is_simple cs ≡ true → encode_utf8_all cs ≡ cs
 all_fine cs h = fine_encoded cs (all_weaker is_simple fine fine_simple cs h)
 
 element_text : (name : Name) (attributes : List Attribute) (inner : List ℕ)

@@ -60,6 +60,13 @@ impl LiveDoc {
         self.bytes.as_slice()
     }
 
+    /// The bytes alone.
+    pub fn into_bytes(self) -> Octs
+        ensures { result ≡ self.bytes }
+    {
+        self.bytes
+    }
+
     /// The document.
     pub fn doc(&self) -> Doc<'_>
         ensures bytes { bytes_in result ≡ self.now.bytes }

@@ -44,7 +44,7 @@ formats_ours draft k (uri ∷ uris) = (((inr refl, (refl, refl)), (((inr refl, t
 abbrev pub properties_node : (List ℕ → List ℕ) → Draft → Node
 properties_node digest draft = Element (xades_named (codes "SignedProperties")) (properties_attributes draft) (properties_inner digest draft)
 
-properties_ours : (digest : List ℕ → List ℕ) (draft : Draft) → IsOurNode (properties_node digest draft)
+pub properties_ours : (digest : List ℕ → List ℕ) (draft : Draft) → IsOurNode (properties_node digest draft)
 properties_ours digest draft =
     let value : List ℕ = encode_of standard (digest (first_certificate draft)) in
     ((inr refl, (refl, refl)), (((inr refl, tt), (((inr refl, tt), text_ours draft.time), (((inr refl, tt), (((inr refl, tt), (((inr refl, tt), (((inl refl, (refl, refl)), tt), (((inl refl, tt), text_ours value), tt))), tt)), tt)), tt))), (((inr refl, tt), formats_ours draft 1 draft.references), tt)))

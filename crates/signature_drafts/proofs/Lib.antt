@@ -1,0 +1,7 @@
+mod Written
+mod QuotedTexts
+mod SimpleTexts
+mod ReferenceOctets
+mod PropertyOctets
+mod PartOctets
+mod AloneTexts

@@ -1,0 +1,6 @@
+pub mod Drafts
+pub mod Uris
+pub mod Properties
+pub mod Standing
+pub mod Parts
+pub mod Digests
