@@ -1,5 +1,5 @@
 -- Files that are handed in one after another.
-use Rattle.std.proofs.Common.{◌≡◌, ℕ, List, [], ◌∷◌, ◌++◌, map, refl, sym, ap, ◌∙◌}
+use Rattle.std.proofs.Common.{◌≡◌, ℕ, ◌≤◌, List, [], ◌∷◌, ◌++◌, length, map, refl, sym, ap, ◌∙◌, subst}
 use Rattle.std.specs.Prelude.{Bool, true, false, ◌&&◌, Option, None, Some, if◌then◌else◌}
 use Rattle.std.specs.Str.{chars}
 use Rattle.std.proofs.lemmas.List.{map-append}
@@ -7,9 +7,11 @@ use Rattle.document_model.specs.Characters.{◌is◌}
 use Rattle.document_model.specs.Items.{or_else}
 use Rattle.reference_chains.specs.HandedIn.{one_more}
 use Rattle.signature_model.specs.Chains.{Handed}
-use Rattle.whole_files.specs.Roles.{is_external}
+use Rattle.whole_files.specs.Roles.{is_external, limit_of}
 use Rattle.whole_files.specs.Wants.{Held, held_of}
 use Rattle.whole_files.specs.declared.file.File.{File}
+use Rattle.whole_files.proofs.HeldLemmas.{external_limit}
+use Rattle.xades_cli.specs.Handing.{AreShort}
 use Rattle.xades_cli.specs.Signing.{handed_by}
 
 -- the first that has it
@@ -44,3 +46,19 @@ handed_same handed files file same outside wanted =
     same wanted ∙ or_none (handed_by (map held_of files) wanted)
     ∙ ap (or_else (handed_by (map held_of files) wanted)) none
     ∙ sym (handed_append (map held_of files) (held_of file) wanted) ∙ ap (λ all. handed_by all wanted) (sym (map-append held_of files (file ∷ [])))
+
+-- what is handed in is the octets of a file, and isn't longer than it may be
+short_by : (inside named : Bool) (bytes octets : List ℕ) (later : Option (List ℕ)) → (inside ≡ true → length bytes ≤ 33554432) → (later ≡ Some octets → length octets ≤ 33554432)
+    → (if inside && named then Some bytes else later) ≡ Some octets → length octets ≤ 33554432
+short_by true true bytes octets later short rest e = let same : bytes ≡ octets = cc in subst (λ text. length text ≤ 33554432) same (short refl)
+short_by true false bytes octets later short rest e = rest e
+short_by false named bytes octets later short rest e = rest e
+
+pub files_short : (files : List File) → AreShort (handed_by (map held_of files))
+files_short [] name octets e = cc
+files_short (file ∷ files) name octets e =
+    short_by (is_external file.role) (name is chars file.name.now) file.bytes octets (handed_by (map held_of files) name)
+    (λ inside. subst (λ n. length file.bytes ≤ n) (external_limit file.role inside) file.within) (files_short files name octets) e
+
+pub handed_short : (handed : Handed) (files : List File) → ((wanted : List ℕ) → handed wanted ≡ handed_by (map held_of files) wanted) → AreShort handed
+handed_short handed files same = λ name octets e. files_short files name octets (sym (same name) ∙ e)

@@ -31,6 +31,7 @@ use Rattle.xades_cli.specs.declared.stop.Refusal.TheVariants as refusals
 use Rattle.xades_cli.specs.declared.stop.Stop.{Stop}
 use Rattle.xades_cli.specs.declared.stop.Stop.TheVariants as stops
 use Rattle.xades_cli.proofs.CommandLemmas.{comes_once}
+use Rattle.xades_cli.proofs.DoneLemmas.{carried_done}
 use Rattle.whole_files.proofs.HeldLemmas.{held_once, none_missing, none_too_long}
 
 -- what is refused follows the outcome, and nothing is given
@@ -117,6 +118,7 @@ answered words shelf shelf_now out out_now answer status command told asks held 
     } in record {
       by_words = subst (IsByWords words) stage command;
       told = λ files e fits. subst (IsRight (asked_by words) files status out.given out_now.given) stage (carried files e);
+      done = λ files e fits. carried_done (asked_by words) files status out.given out_now.given (carried files e);
       cause = subst (HasCause (wants_of (asked_by words)) shelf.counts shelf_now.counts) stage tt;
       write = write;
       complete = λ files e fits fine sound all whole. inr (carried files e, λ fault. sound (write fault));
@@ -148,6 +150,7 @@ pub stopped : (words : List (List ℕ)) (shelf shelf_now : ShelfState) (out : Si
 stopped words shelf shelf_now out (stops.Words index) judged told cause asks held grown = record {
   by_words = judged;
   told = λ files e fits. absurd (faulty_don't_fit patterns words index judged fits);
+  done = λ files e fits ends. cc;
   cause = tt;
   write = λ e. cc;
   complete = λ files e fits fine sound all whole. absurd (faulty_don't_fit patterns words index judged fits);
@@ -160,6 +163,7 @@ stopped words shelf shelf_now out (stops.Words index) judged told cause asks hel
 stopped words shelf shelf_now out (stops.File name faults.NoSuch) judged told cause asks held grown = record {
   by_words = judged;
   told = λ files e fits. told files e;
+  done = λ files e fits ends. cc;
   cause = cause;
   write = λ e. cc;
   complete = λ files e fits fine sound all whole. absurd (none_missing files (wants_of (asked_by words)) all name whole (told files e));
@@ -172,6 +176,7 @@ stopped words shelf shelf_now out (stops.File name faults.NoSuch) judged told ca
 stopped words shelf shelf_now out (stops.File name faults.Failed) judged told cause asks held grown = record {
   by_words = judged;
   told = λ files e fits. told files e;
+  done = λ files e fits ends. cc;
   cause = cause;
   write = λ e. cc;
   complete = λ files e fits fine sound all whole. absurd (fine cause.1);
@@ -184,6 +189,7 @@ stopped words shelf shelf_now out (stops.File name faults.Failed) judged told ca
 stopped words shelf shelf_now out (stops.File name (faults.TooLong got)) judged told cause asks held grown = record {
   by_words = judged;
   told = λ files e fits. told files e;
+  done = λ files e fits ends. cc;
   cause = cause;
   write = λ e. cc;
   complete = λ files e fits fine sound all whole. absurd (none_too_long files (wants_of (asked_by words)) all name got whole (told files e));
@@ -196,6 +202,7 @@ stopped words shelf shelf_now out (stops.File name (faults.TooLong got)) judged 
 stopped words shelf shelf_now out stops.OutOfMemory judged told cause asks held grown = record {
   by_words = tt;
   told = λ files e fits. tt;
+  done = λ files e fits ends. cc;
   cause = tt;
   write = λ e. cc;
   complete = λ files e fits fine sound all whole. inl refl;
@@ -217,6 +224,7 @@ stopped words shelf shelf_now out (stops.Refusal refusal) judged told cause asks
     } in record {
       by_words = subst (IsByWords words) stage judged.0;
       told = λ files e fits. subst (IsRight (asked_by words) files (ended_by_refusal refusal).status out.given out.given) stage (carried files e);
+      done = λ files e fits. carried_done (asked_by words) files (ended_by_refusal refusal).status out.given out.given (carried files e);
       cause = subst (HasCause (wants_of (asked_by words)) shelf.counts shelf_now.counts) stage tt;
       write = λ e. absurd (refusal_writes_nothing refusal e);
       complete = λ files e fits fine sound all whole. inr (carried files e, refusal_writes_nothing refusal);

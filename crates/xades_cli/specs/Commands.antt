@@ -25,6 +25,11 @@ abbrev pub ComesTo : Asked → List Held → Outcome → Type 0
 ComesTo (AskedCanon name form id) files outcome = outcome ≡ canon_outcome form id (document_of files)
 ComesTo (AskedOctets name externals) files outcome = outcome ≡ octets_outcome (handed_by files) (document_of files)
 
+-- what Done says of the files of a command and of the bytes that it gives out, beyond that these are what it comes to
+abbrev pub DoneSays : Asked → List Held → List ℕ → Type 0
+DoneSays (AskedCanon name form id) files bytes = Unit {0}
+DoneSays (AskedOctets name externals) files bytes = Unit {0}
+
 -- what was computed is right by what the command comes to
 pub record IsComputed (asked : Asked) (files : List Held) (result : Result Answer Stop) : Type 0 where
   pub outcome : Outcome

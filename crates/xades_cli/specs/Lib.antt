@@ -3,6 +3,7 @@ pub mod Asked
 pub mod Outcomes
 pub mod Stops
 pub mod Reading
+pub mod Handing
 pub mod Canon
 pub mod Signing
 pub mod Commands

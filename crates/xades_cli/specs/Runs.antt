@@ -4,6 +4,7 @@ use Rattle.doc_spans.specs.declared.faults.DocFault.TheVariants as documents
 use Rattle.policy_rules.specs.declared.fault.PolicyFault.TheVariants as policies
 use Rattle.xa_io.specs.Causes.{Rose}
 use Rattle.xa_io.specs.Shelf.{Files}
+use Rattle.xa_io.specs.Sink.{appended}
 use Rattle.whole_files.specs.Asking.{AsksInOrder}
 use Rattle.whole_files.specs.Faults.{Counts, HasGrown, HasRisenFor, IsFirstFault, IsWanted, counts_of}
 use Rattle.whole_files.specs.Wants.{Want, Held, AreHeld, names_of}
@@ -11,7 +12,7 @@ use Rattle.whole_files.specs.declared.fault.FileFault.{FileFault}
 use Rattle.whole_files.specs.declared.fault.FileFault.TheVariants as faults
 use Rattle.word_patterns.specs.Grammar.{IsFaultyWord}
 use Rattle.xades_cli.specs.Asked.{Asked, asked_by}
-use Rattle.xades_cli.specs.Commands.{wants_of, ComesTo}
+use Rattle.xades_cli.specs.Commands.{wants_of, ComesTo, DoneSays}
 use Rattle.xades_cli.specs.Outcomes.{Outcome, Follows}
 use Rattle.xades_cli.specs.Words.{patterns, IsCommand}
 use Rattle.xades_cli.specs.declared.status.Status.{Status}
@@ -53,6 +54,14 @@ IsRight asked shelf status before now (OfWords index) = ⊥
 IsRight asked shelf status before now (OfFile name fault) = IsFirstFault shelf (wants_of asked) name fault
 IsRight asked shelf status before now OfOutcome = IsCarriedOut asked shelf status before now
 IsRight asked shelf status before now OfMemory = Unit {0}
+
+-- the files were read and bytes were given out, of which the command says more
+pub record IsDone (asked : Asked) (shelf : Files) (before now : Option (List ℕ)) : Type 0 where
+  pub files : List Held
+  pub bytes : List ℕ
+  pub held : AreHeld shelf (wants_of asked) files
+  pub given : now ≡ appended before bytes
+  pub says : DoneSays asked files bytes
 
 -- a status that tells of a file tells of one that the command wants, and has its cause in the counts of the shelf
 abbrev pub HasCause : List Want → Counts → Counts → Stage → Type 0
@@ -103,6 +112,8 @@ pub record IsRun (words : List (List ℕ)) (shelf shelf_now : ShelfState) (out o
   pub by_words : IsByWords words (stage_of status)
   -- where the shelf tells its files, the status and what was given out are right by them
   pub told : (files : Files) → shelf.held ≡ Some files → IsCommand words → IsRight (asked_by words) files status out.given out_now.given (stage_of status)
+  -- and Done says what the command promises of its files and of what was given out
+  pub done : (files : Files) → shelf.held ≡ Some files → IsCommand words → status ≡ Done → IsDone (asked_by words) files out.given out_now.given
   -- NoSuchFile, ReadFault, TooLong and WriteFault come only where a count rose
   pub cause : HasCause (wants_of (asked_by words)) shelf.counts shelf_now.counts (stage_of status)
   pub write : status ≡ WriteFault → Rose out.faults out_now.faults

@@ -1,6 +1,6 @@
 -- What `octets` comes to for a signature: the octets that it signs, or the first code that stands against it. XML Signature 1.1, "Core
 -- Generation"; codes and their order are this project's own.
-use Rattle.std.specs.Prelude.{ℕ, Bool, true, false, ◌&&◌, if◌then◌else◌, List, [], ◌∷◌, Option, None, Some, min, unwrap_or}
+use Rattle.std.specs.Prelude.{ℕ, Bool, true, false, ◌&&◌, if◌then◌else◌, List, [], ◌∷◌, Option, None, Some, unwrap_or}
 use Rattle.std.specs.Str.{chars}
 use Rattle.document_model.specs.Characters.{◌is◌}
 use Rattle.document_model.specs.Documents
@@ -8,7 +8,6 @@ use Rattle.document_model.specs.Documents.{document_of}
 use Rattle.document_model.specs.Tree.{Nodes}
 use Rattle.qualifying_props.specs.Begins.{begins_at}
 use Rattle.qualifying_props.specs.Whole.{is_whole}
-use Rattle.reference_chains.specs.Decoding.{last_told}
 use Rattle.signature_model.specs.Chains as chains
 use Rattle.signature_model.specs.Chains.{Fault, Handed, NoChain, NotHandedIn, NotBase64}
 use Rattle.signature_model.specs.Covers.{self_cover}
@@ -48,14 +47,14 @@ line_named lines.Value = what.Value
 line_named lines.Stamp = what.Stamp
 line_named lines.Values = what.Values
 
--- the code for a fault of the References; a place in base64 is told up to the greatest number of 32 bits
+-- the code for a fault of the References
 abbrev pub reference_code : Fault → Code
 reference_code (chains.TargetMissing k) = refusals.TargetMissing k
 reference_code (chains.TargetTwice k) = refusals.TargetTwice k
 reference_code (NoChain k) = refusals.Chain k
 reference_code (chains.DigestName k) = refusals.DigestName k
 reference_code (NotHandedIn k) = refusals.External k
-reference_code (NotBase64 k at) = refusals.Base64 k (min at last_told)
+reference_code (NotBase64 k at) = refusals.Base64 k at
 
 -- Each test goes on to the next where it finds nothing.
 

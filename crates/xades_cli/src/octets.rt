@@ -13,6 +13,7 @@ ghost use Rattle.signature_model.specs.Octets.{value_octets};
 ghost use Rattle.signature_model.specs.Parts.{form_in, is_signed, plain_form, references};
 ghost use Rattle.signature_model.specs.Readable.{Answer as Found};
 ghost use Rattle.signature_model.specs.Spots.{Spot};
+ghost use Rattle.xades_cli.specs.Handing.{AreShort, IsToldWhole};
 ghost use Rattle.xades_cli.specs.Outcomes.{IsOf, Writes};
 ghost use Rattle.xades_cli.specs.Signing.{by_answer, octets_outcome, signature_outcome, unless_faulty, unless_signed};
 
@@ -32,7 +33,8 @@ use std::alloc::Global;
 /// The octets that the signature of a document signs, its `SignedInfo` in the form of its `CanonicalizationMethod` (XML Signature 1.1,
 /// section 4.4), or why it can't be signed.
 pub fn octets_to_sign(alloc: Global, document: &[u8], externals: &Externals) -> Result<Answer, Stop>
-    requires { length document.now ≤ 16777216 }
+    requires document { length document.now ≤ 16777216 }
+    requires externals { AreShort (handed_in externals.now) }
     ensures { IsOf (octets_outcome (handed_in externals.now) document.now) result }
 {
     let tree = read_document(alloc, document)?;
@@ -40,6 +42,8 @@ pub fn octets_to_sign(alloc: Global, document: &[u8], externals: &Externals) -> 
 }
 
 fn judge_signature(alloc: Global, doc: Doc<'_>, externals: &Externals) -> Result<Answer, Stop>
+    requires document { length (bytes_in doc) ≤ 16777216 }
+    requires externals { AreShort (handed_in externals.now) }
     ensures { IsOf (signature_outcome (handed_in externals.now) (bytes_in doc.entry) (document_in doc.entry)) result }
 {
     match read_signature(alloc, doc) {
@@ -54,7 +58,9 @@ fn judge_references(
     parts: &SignatureParts,
     externals: &Externals,
 ) -> Result<Answer, Stop>
-    requires { AreParts doc parts.now }
+    requires parts { AreParts doc parts.now }
+    requires document { length (bytes_in doc) ≤ 16777216 }
+    requires externals { AreShort (handed_in externals.now) }
     ensures { let document = document_in doc.entry in let signature = spot_of doc.entry parts.now.signature in
         IsOf (unless_faulty document signature (fault (handed_in externals.now) document signature.path (references document signature))) result }
 {
@@ -81,9 +87,9 @@ fn stop_by_parts(fault: PartFault) -> Stop
     }
 }
 
-// Why the References of a signature aren't read.
+// Why the References of a signature aren't read. A place in base64 that 32 bits hold is told as it is.
 fn stop_by_reference(fault: RefFault) -> Stop
-    ensures { (document : Nodes) (signature : Spot) (found : Option Fault) → IsRefFault found fault → IsOf (unless_faulty document signature found) (Err result) }
+    ensures { (document : Nodes) (signature : Spot) (found : Option Fault) → IsRefFault found fault → IsToldWhole found → IsOf (unless_faulty document signature found) (Err result) }
 {
     match fault {
         RefFault::TargetMissing { k } => refuse(Code::TargetMissing { k }),

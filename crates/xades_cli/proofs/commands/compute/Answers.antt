@@ -9,6 +9,7 @@ use Rattle.xades_cli.specs.Outcomes.{IsOf}
 use Rattle.xades_cli.specs.Signing.{octets_outcome}
 use Rattle.xades_cli.specs.declared.stop.Stop.TheVariants as stops
 use Rattle.xades_cli.proofs.CommandLemmas.{canon_computed, first_read, first_removed, memory_wanted, octets_computed, some_file}
+use Rattle.xades_cli.proofs.HandingLemmas.{handed_short}
 use Rattle.xades_cli.proofs.commands.compute.Goals as goal
 
 pub returns-in_err-externals-in-Octets : goal.returns-in_err-externals-in-Octets
@@ -32,3 +33,7 @@ returns-in_ok-externals-in-Octets c =
     (handed_in c.in_ok-externals-in-Octets.externals) c.octets_to_sign.result held
     (first_read (document_want c.in-Octets.document.now) (map external_want (map text_now c.in-Octets.externals.items)) (map held_of c.args.files.items) (held_of c.remove-document.result) (map held_of c.remove-document.new.self.items) held read)
     c.in_ok-externals-in-Octets.ensures computed)
+
+pub octets_to_sign-requires-clause-externals : goal.octets_to_sign-requires-clause-externals
+octets_to_sign-requires-clause-externals c =
+    handed_short (handed_in c.in_ok-externals-in-Octets.externals) c.remove-document.new.self.items c.in_ok-externals-in-Octets.ensures

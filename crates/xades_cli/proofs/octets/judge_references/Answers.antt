@@ -2,9 +2,11 @@ use Rattle.doc_spans.specs.Seen.{document_in}
 use Rattle.reference_chains.specs.HandedIn.{handed_in}
 use Rattle.references.specs.Answers.{fault_in}
 use Rattle.signature_elements.specs.Standing.{spot_of}
+use Rattle.xades_cli.proofs.FaultPlaces.{told_whole}
 use Rattle.xades_cli.proofs.octets.judge_references.Goals as goal
 
 pub returns : goal.returns
 returns c =
     c.stop_by_reference.ensures (document_in c.args.doc) (spot_of c.args.doc c.args.parts.now.signature)
     (fault_in (handed_in c.args.externals.now) c.args.doc c.args.parts.now.signature) c.in-Err.ensures.err
+    (told_whole (handed_in c.args.externals.now) c.args.doc c.args.parts.now.signature c.requires.document c.requires.externals)
