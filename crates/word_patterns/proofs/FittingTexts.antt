@@ -6,7 +6,7 @@ use Rattle.std.specs.Str.{bytes_eq}
 use Rattle.std.proofs.lemmas.Bool.{eqb-true}
 use Rattle.std.proofs.lemmas.List.Elements.{All-nil, All-cons, All-head}
 use Rattle.std.proofs.lemmas.Slice.Eq.{bytes_eq-Decides}
-use Rattle.word_patterns.specs.Fitting.{is_apart, is_apart_of, are_apart, keyed_part, AreTextsOf}
+use Rattle.word_patterns.specs.Fitting.{is_apart, is_apart_of, are_apart, alone, keyed_part, AreTextsOf}
 use Rattle.word_patterns.specs.Keyed.{keyed_text, keyed_texts}
 use Rattle.word_patterns.specs.Grammar.{WordForm, Plain, Keyed, Part, AreOfOne, Fits, IsPart, is_of_form, is_of_one, text_behind, texts_behind}
 use Rattle.word_patterns.proofs.GrammarLemmas.{and_left, and_right}
@@ -125,9 +125,9 @@ one_by : (b : Bool) (text : List ℕ) (texts : List (List ℕ)) (rest : List (Un
 one_by true text texts rest e = ap (λ list. text ∷ list) e
 one_by false text texts rest e = e
 
-one_key : (key : List ℕ) (words : List (List ℕ)) → texts_behind key words ≡ map (λ item. item.1) (keyed_texts ((key, tt) ∷ []) words)
+one_key : (key : List ℕ) (words : List (List ℕ)) → texts_behind key words ≡ map (λ item. item.1) (keyed_texts (alone key) words)
 one_key key [] = refl
-one_key key (word ∷ words) = one_by (starts_with nat_eq word key) (drop (length key) word) (texts_behind key words) (keyed_texts ((key, tt) ∷ []) words) (one_key key words)
+one_key key (word ∷ words) = one_by (starts_with nat_eq word key) (drop (length key) word) (texts_behind key words) (keyed_texts (alone key) words) (one_key key words)
 
 -- a word of one form alone
 of_only : (b : Bool) → (if b then true else false) ≡ true → b ≡ true
@@ -144,10 +144,10 @@ texts_of_own key is_text (word ∷ words) of =
     let rest = texts_of_own key is_text words of.1 in
     rw begins (ap suc rest.0, All-cons (λ text. is_text text ≡ true) (drop (length key) word) (texts_behind key words) text rest.1)
 
-pub texts_fit : (before : List Part) (key : List ℕ) (is_text : List ℕ → Bool) (least most : ℕ) (after : List Part) (words : List (List ℕ)) → are_apart ((key, tt) ∷ []) before ≡ true → are_apart ((key, tt) ∷ []) after ≡ true
+pub texts_fit : (before : List Part) (key : List ℕ) (is_text : List ℕ → Bool) (least most : ℕ) (after : List Part) (words : List (List ℕ)) → are_apart (alone key) before ≡ true → are_apart (alone key) after ≡ true
     → Fits (before ++ keyed_part key is_text least most ∷ after) words → AreTextsOf key is_text least most words
 texts_fit before key is_text least most after words front back fits =
-    let found = own_words ((key, tt) ∷ []) before (keyed_part key is_text least most) after words front back fits in
+    let found = own_words (alone key) before (keyed_part key is_text least most) after words front back fits in
     let texts = texts_of_own key is_text found.own found.is_part.each in
     let enough : least ≤ length found.own = found.is_part.enough in
     let few : length found.own ≤ most = found.is_part.few in

@@ -16,6 +16,10 @@ is_apart_of keys form = list_all (λ key. is_apart key.0 form) keys
 abbrev pub are_apart : {K : Type 0} → List (List ℕ × K) → List Part → Bool
 are_apart keys parts = list_all (λ part. list_all (is_apart_of keys) part.forms) parts
 
+-- one key, which stands for nothing
+abbrev pub alone : List ℕ → List (List ℕ × Unit {0})
+alone key = (key, tt) ∷ []
+
 -- a part of words with a key
 abbrev pub keyed_part : List ℕ → (List ℕ → Bool) → ℕ → ℕ → Part
 keyed_part key is_text least most = record { forms = Keyed key is_text ∷ []; least = least; most = most }

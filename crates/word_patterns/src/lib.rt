@@ -9,7 +9,7 @@ mod patterns;
 mod search;
 mod text_forms;
 
-pub use fitting::{keyed_texts_are_few, texts_fit};
+pub use fitting::texts_fit;
 pub use keyed::keyed_texts;
 pub use lookup::{text_behind, texts_behind};
 pub use patterns::{Part, WordForm};
