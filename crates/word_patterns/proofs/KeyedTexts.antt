@@ -9,7 +9,7 @@ any_append : {A : Type 0} (x : Option A) (xs ys rest : List A) → rest ≡ xs +
 any_append None xs ys rest e = e
 any_append (Some x) xs ys rest e = ap (λ list. x ∷ list) e
 
-keyed_append : {K : Type 0} (keys : List (List ℕ × K)) (xs ys : List (List ℕ)) → keyed_texts keys (xs ++ ys) ≡ keyed_texts keys xs ++ keyed_texts keys ys
+pub keyed_append : {K : Type 0} (keys : List (List ℕ × K)) (xs ys : List (List ℕ)) → keyed_texts keys (xs ++ ys) ≡ keyed_texts keys xs ++ keyed_texts keys ys
 keyed_append keys [] ys = refl
 keyed_append keys (word ∷ xs) ys =
     any_append (keyed_text keys word) (keyed_texts keys xs) (keyed_texts keys ys) (keyed_texts keys (xs ++ ys)) (keyed_append keys xs ys)

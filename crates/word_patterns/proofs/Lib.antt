@@ -1,4 +1,5 @@
 mod Cursors
+pub mod FittingTexts
 pub mod GrammarLemmas
 mod KeyTexts
 mod KeyedTexts

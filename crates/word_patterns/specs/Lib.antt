@@ -1,3 +1,4 @@
+pub mod Fitting
 pub mod Good
 pub mod Grammar
 pub mod Keyed

@@ -3,6 +3,7 @@ pub mod CommandLemmas
 pub mod OctetLemmas
 pub mod DoneLemmas
 pub mod RunLemmas
+pub mod MakerLemmas
 pub mod WordLemmas
 pub mod HandingLemmas
 pub mod FaultPlaces

@@ -1,7 +1,7 @@
 -- The files that a command wants, and what it comes to by their bytes.
 use Rattle.std.specs.Prelude.{◌≡◌, ℕ, List, [], ◌∷◌, map, Result}
 use Rattle.whole_files.specs.Wants.{Want, Held, document_of}
-use Rattle.whole_files.specs.declared.role.Role.TheVariants.{Document, External}
+use Rattle.whole_files.specs.declared.role.Role.TheVariants.{Document, Policy, External}
 use Rattle.xades_cli.specs.Asked.{Asked, AskedCanon, AskedOctets}
 use Rattle.xades_cli.specs.Canon.{canon_outcome}
 use Rattle.xades_cli.specs.Outcomes.{Outcome, IsOf}
@@ -11,6 +11,9 @@ use Rattle.xades_cli.specs.declared.stop.Stop.{Stop}
 
 abbrev pub document_want : List ℕ → Want
 document_want name = record { role = Document; name = name }
+
+abbrev pub policy_want : List ℕ → Want
+policy_want name = record { role = Policy; name = name }
 
 abbrev pub external_want : List ℕ → Want
 external_want name = record { role = External; name = name }

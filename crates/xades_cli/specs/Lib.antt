@@ -7,6 +7,9 @@ pub mod Handing
 pub mod Canon
 pub mod Signing
 pub mod Commands
+pub mod Preparing
+pub mod Attaching
+pub mod Makers
 pub mod Runs
 pub mod Giving
 pub mod Judging

@@ -31,11 +31,14 @@ exclusive_words =
 abbrev pub inclusive_words : List Part
 inclusive_words = once (Plain (codes "canon")) ∷ once (file_word (codes "doc=")) ∷ once (Plain (codes "form=inclusive")) ∷ comments_word ∷ id_word ∷ []
 
+-- up to sixteen ext=NAME
+abbrev pub external_words : Part
+external_words = record { forms = file_word (codes "ext=") ∷ []; least = 0; most = 16 }
+
 -- octets doc=FILE for=signature, and up to sixteen ext=NAME
 abbrev pub signature_words : List Part
 signature_words =
-    once (Plain (codes "octets")) ∷ once (file_word (codes "doc=")) ∷ once (Plain (codes "for=signature"))
-    ∷ record { forms = file_word (codes "ext=") ∷ []; least = 0; most = 16 } ∷ []
+    once (Plain (codes "octets")) ∷ once (file_word (codes "doc=")) ∷ once (Plain (codes "for=signature")) ∷ external_words ∷ []
 
 -- the words of each command
 abbrev pub patterns : List (List Part)

@@ -16,7 +16,11 @@ use std::alloc::Global;
 use whole_files::{File, Role, Wanted, document_of};
 use xa_io::OutOfMemory;
 
-fn want<'a>(wanted: &mut Vec<Wanted<'a>>, role: Role, name: &'a str) -> Result<(), OutOfMemory>
+pub(crate) fn want<'a>(
+    wanted: &mut Vec<Wanted<'a>>,
+    role: Role,
+    name: &'a str,
+) -> Result<(), OutOfMemory>
     ensures { OnOk result (map want_of wanted.new.items ≡ map want_of wanted.old.items ++ record { role = role; name = name.now } ∷ []) }
 {
     match wanted.push(Wanted { role, name }) {
@@ -25,7 +29,11 @@ fn want<'a>(wanted: &mut Vec<Wanted<'a>>, role: Role, name: &'a str) -> Result<(
     }
 }
 
-fn want_externals<'a>(wanted: &mut Vec<Wanted<'a>>, names: &[&'a str]) -> Result<(), OutOfMemory>
+// The files that are handed in for References.
+pub(crate) fn want_externals<'a>(
+    wanted: &mut Vec<Wanted<'a>>,
+    names: &[&'a str],
+) -> Result<(), OutOfMemory>
     ensures { OnOk result (map want_of wanted.new.items ≡ map want_of wanted.old.items ++ map external_want (map text_now names.now)) }
 {
     for name in names {

@@ -42,7 +42,7 @@ const CANON: Part<'static> = Part {
     most: 1,
 };
 
-const DOCUMENT: Part<'static> = Part {
+pub(crate) const DOCUMENT: Part<'static> = Part {
     forms: &[WordForm::Keyed("doc=", TextForm::FileName)],
     least: 1,
     most: 1,
@@ -93,7 +93,13 @@ const FOR_SIGNATURE: Part<'static> = Part {
     most: 1,
 };
 
-const EXTERNALS: Part<'static> = Part {
+pub(crate) const POLICY: Part<'static> = Part {
+    forms: &[WordForm::Keyed("policy=", TextForm::FileName)],
+    least: 1,
+    most: 1,
+};
+
+pub(crate) const EXTERNALS: Part<'static> = Part {
     forms: &[WordForm::Keyed("ext=", TextForm::FileName)],
     least: 0,
     most: 16,
