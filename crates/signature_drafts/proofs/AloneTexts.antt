@@ -8,7 +8,7 @@ use Rattle.document_model.specs.Canonical.{Exclusive, Around, at_apex, inside, s
 use Rattle.document_model.specs.Items.{Attribute}
 use Rattle.document_model.specs.Names.{Name, spelled}
 use Rattle.document_model.specs.Scopes.{Tag}
-use Rattle.document_model.specs.Tree.{Node, Nodes, Element, no_nodes, ◌⨾◌}
+use Rattle.document_model.specs.Tree.{Node, Nodes, Element, no_nodes}
 use Rattle.signature_model.specs.Vocabulary.{ds_space, xades_space, digest_name, fragment}
 use Rattle.signature_model.specs.Chains.{place_named}
 use Rattle.signature_model.specs.Fragments.{written, written_node, written_octets, prefixed, having, declaring, xades_element, text, encoded, ◌then◌}

@@ -1,5 +1,5 @@
 -- The parts of the signature in octets.
-use Rattle.std.proofs.Common.{◌≡◌, ℕ, ◌+◌, ◌<◌, ◌≤◌, List, [], ◌∷◌, ◌++◌, length, get_or, drop, refl, sym, ◌∙◌, ap, append_assoc, codes}
+use Rattle.std.proofs.Common.{◌≡◌, ℕ, ◌+◌, ◌<◌, ◌≤◌, List, [], ◌∷◌, ◌++◌, length, get_or, drop, sym, ◌∙◌, ap, append_assoc, codes}
 use Rattle.std.proofs.lemmas.List.{append-nil, drop_more, drop_all}
 use Rattle.std.specs.Char.{encode_utf8}
 use Rattle.document_model.specs.Methods.{exclusive_name}
@@ -10,7 +10,6 @@ use Rattle.signature_model.specs.Prepared.{Draft, algorithm, references_from, la
 use Rattle.signature_drafts.specs.Parts.{signed_info_nodes, certificate_nodes, key_info_nodes, object_nodes}
 use Rattle.signature_drafts.specs.Properties.{properties_with}
 use Rattle.signature_drafts.proofs.Written.{quoted, element_octets, joined_octets, joins}
-use Rattle.signature_drafts.proofs.ReferenceOctets.{method_octets}
 
 pub signed_info_octets : (digest_of : List ℕ → List ℕ) (value : List ℕ) (draft : Draft) → written_octets (signed_info_nodes digest_of value draft)
     ≡ joins (codes "<ds:SignedInfo><ds:CanonicalizationMethod Algorithm=\"http://www.w3.org/2001/10/xml-exc-c14n#\"></ds:CanonicalizationMethod>" ∷ written_octets (algorithm (codes "SignatureMethod") draft.method)

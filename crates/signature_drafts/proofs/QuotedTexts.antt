@@ -1,6 +1,5 @@
 -- Values of attributes in octets.
-use Rattle.std.proofs.Common.{length, get_or, slice_get, Some, ◌≡◌, ℕ, zero, suc, ◌/◌, ◌%◌, ◌<◌, Bool, true, false, cond, List, [], ◌∷◌, ◌++◌, refl, sym, ◌∙◌, ap, append_assoc, arith, nat_eq, codes}
-use Rattle.std.proofs.lemmas.Bool.Decides.{nat_tests}
+use Rattle.std.proofs.Common.{length, get_or, slice_get, Some, ◌≡◌, ℕ, zero, suc, ◌/◌, ◌%◌, ◌<◌, Bool, true, false, cond, List, [], ◌∷◌, ◌++◌, refl, sym, ◌∙◌, ap, append_assoc, arith, nat_eq}
 use Rattle.std.proofs.lemmas.Str.{chars-nil, encodes-append}
 use Rattle.std.specs.Str.{chars}
 use Rattle.std.specs.Prelude.{encode_utf8_all, flat_map}

@@ -1,14 +1,13 @@
 -- References in octets.
 use Rattle.std.proofs.Common.{◌≡◌, ℕ, suc, ◌+◌, ◌<◌, ◌≤◌, List, [], ◌∷◌, ◌++◌, length, get_or, drop, refl, sym, ◌∙◌, ap, append_assoc, arith, codes}
 use Rattle.std.proofs.lemmas.List.{append-nil, drop_more, drop_all}
-use Rattle.std.specs.Prelude.{encode_utf8_all}
 use Rattle.std.specs.Char.{encode_utf8}
 use Rattle.std.specs.Fmt.{decimal}
 use Rattle.algorithms.specs.DigestKind.{uri_of}
 use Rattle.algorithms.specs.declared.digest_kinds.DigestKind as code
 use Rattle.algorithms.specs.declared.digest_kinds.DigestKind.TheVariants as kinds
 use Rattle.document_model.specs.Items.{Attribute}
-use Rattle.document_model.specs.Tree.{Nodes, no_nodes, ◌⨾◌, joined}
+use Rattle.document_model.specs.Tree.{Nodes, no_nodes}
 use Rattle.signature_model.specs.Vocabulary.{digest_name, fragment, signed_properties_type}
 use Rattle.signature_model.specs.Chains.{Place, Document, Named, External, place_named}
 use Rattle.signature_model.specs.Fragments.{written_octets, prefixed, having, ds_element, encoded, ◌then◌}
@@ -17,7 +16,7 @@ use Rattle.signature_elements.specs.DigestKinds.{kind_in}
 use Rattle.signature_drafts.specs.Properties.{attributes_octets, digest_with}
 use Rattle.signature_drafts.specs.Uris.{target_at}
 use Rattle.signature_drafts.specs.declared.uris.UriTarget.TheVariants as targets
-use Rattle.signature_drafts.proofs.Written.{quoted, each_attribute, behind_octets, element_octets, joined_octets, each_joined, joins}
+use Rattle.signature_drafts.proofs.Written.{quoted, each_attribute, element_octets, joined_octets, each_joined, joins}
 use Rattle.signature_drafts.proofs.QuotedTexts.{quoted_append, quoted_decimal}
 
 pub whole_transforms : written_octets (transform_nodes Document) ≡ codes "<ds:Transforms><ds:Transform Algorithm=\"http://www.w3.org/2000/09/xmldsig#enveloped-signature\"></ds:Transform><ds:Transform Algorithm=\"http://www.w3.org/2001/10/xml-exc-c14n#\"></ds:Transform></ds:Transforms>"

@@ -1,14 +1,13 @@
 -- Nodes in octets, piece by piece.
-use Rattle.std.proofs.Common.{◌≡◌, ℕ, suc, List, [], ◌∷◌, ◌++◌, refl, sym, ◌∙◌, ap, append_assoc, codes}
+use Rattle.std.proofs.Common.{◌≡◌, ℕ, List, [], ◌∷◌, ◌++◌, refl, sym, ◌∙◌, ap, append_assoc, codes}
 use Rattle.std.proofs.lemmas.List.{append-nil}
 use Rattle.std.proofs.lemmas.Str.{encodes-append}
 use Rattle.std.specs.Prelude.{encode_utf8_all, flat_map}
-use Rattle.std.specs.Char.{encode_utf8}
 use Rattle.document_model.specs.Canonical.{value_character, text_character, attribute_text}
 use Rattle.document_model.specs.Items.{Attribute}
 use Rattle.document_model.specs.Names.{Name, spelled}
 use Rattle.document_model.specs.Tree.{Node, Nodes, Element, Text, Comment, Instruction, no_nodes, ◌⨾◌, joined}
-use Rattle.signature_model.specs.Fragments.{written, written_node, written_octets, prefixed, having}
+use Rattle.signature_model.specs.Fragments.{written, written_node, written_octets}
 use Rattle.signature_drafts.specs.Properties.{attributes_octets}
 
 abbrev pub quoted : List ℕ → List ℕ

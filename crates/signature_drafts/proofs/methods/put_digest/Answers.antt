@@ -1,4 +1,4 @@
-use Rattle.std.proofs.Common.{◌≡◌, ◌++◌, ◌∙◌, ℕ, List, [], ◌∷◌, OnOk, ap, sym, subst, codes}
+use Rattle.std.proofs.Common.{◌≡◌, ◌++◌, ◌∙◌, ℕ, List, [], ◌∷◌, OnOk, ap, subst, codes}
 use Rattle.document_model.specs.Items.{Attribute}
 use Rattle.signature_model.specs.Fragments.{written_octets, encoded}
 use Rattle.signature_model.specs.Vocabulary.{digest_name}

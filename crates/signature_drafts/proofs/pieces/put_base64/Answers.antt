@@ -1,5 +1,4 @@
 use Rattle.std.proofs.Common.{◌≡◌, ◌++◌, ◌∙◌, ℕ, List, OnOk, ap, arith, subst, sym}
-use Rattle.signature_model.specs.Fragments.{encoded, written_octets}
 use Rattle.signature_drafts.proofs.SimpleTexts.{encoded_text}
 use Rattle.signature_drafts.proofs.pieces.put_base64.Goals as goal
 

@@ -1,6 +1,5 @@
-use Rattle.std.proofs.Common.{◌≡◌, ◌++◌, ◌∙◌, sym, ap}
+use Rattle.std.proofs.Common.{◌++◌, ◌∙◌, sym, ap}
 use Rattle.signature_model.specs.Fragments.{written_octets}
-use Rattle.signature_model.specs.Prepared.{first_certificate}
 use Rattle.signature_drafts.specs.Standing.{properties_standing}
 use Rattle.signature_drafts.specs.declared.standing.Standing.TheVariants.{Alone}
 use Rattle.signature_drafts.proofs.AloneTexts.{alone_octets}

@@ -1,5 +1,4 @@
 use Rattle.std.proofs.Common.{◌≡◌, ◌++◌, ◌∙◌, ℕ, List, [], ◌∷◌, OnOk, ap, subst, codes}
-use Rattle.std.specs.Str.{chars}
 use Rattle.signature_model.specs.Fragments.{written_octets}
 use Rattle.signature_model.specs.Prepared.{digest_nodes, last_reference}
 use Rattle.signature_drafts.proofs.ReferenceOctets.{last_octets}

@@ -1,5 +1,4 @@
 use Rattle.std.proofs.Common.{◌≡◌, ◌++◌, ◌∙◌, ℕ, List, [], ◌∷◌, OnOk, ap, subst, codes}
-use Rattle.std.specs.Str.{chars}
 use Rattle.signature_model.specs.Fragments.{written_octets}
 use Rattle.signature_model.specs.Prepared.{first_certificate, signature_nodes}
 use Rattle.signature_drafts.specs.Parts.{key_info_nodes, object_nodes, signed_info_nodes}

@@ -1,5 +1,4 @@
 use Rattle.std.proofs.Common.{◌≡◌, ◌++◌, ◌∙◌, ℕ, List, [], ◌∷◌, OnOk, ap, subst, codes}
-use Rattle.std.specs.Str.{chars}
 use Rattle.signature_model.specs.Fragments.{written_octets}
 use Rattle.signature_model.specs.Prepared.{algorithm, last_reference, references_from}
 use Rattle.signature_drafts.specs.Parts.{signed_info_nodes}

@@ -1,0 +1,6 @@
+pub mod FoundPlaces
+mod TakenTexts
+mod NamedOctets
+mod DigestBytes
+mod Preparation
+mod Outcomes

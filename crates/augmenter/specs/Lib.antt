@@ -1,0 +1,5 @@
+pub mod Codes
+pub mod Targets
+pub mod Keys
+pub mod Preparing
+pub mod Answers
