@@ -1,7 +1,7 @@
 #!/usr/bin/env bash
 # Has OpenSSL read a certificate, a revocation list and a time-stamp token that the sample world made. The gate does not run this.
 set -eu
-cd "$(dirname "$0")/../crates/world_objects"
+cd "$(dirname "$0")/../crates/benches"
 command -v openssl >/dev/null || { echo "openssl is not installed"; exit 2; }
 rt run >/dev/null 2>&1
 dir=$(mktemp -d)
@@ -9,7 +9,7 @@ trap 'rm -rf "$dir"' EXIT
 
 # Writes the object of that name as DER.
 object() {
-    out/world_objects "$1" | tr -d '\n' | sed 's/../\\x&/g' | while IFS= read -r text || [ -n "$text" ]; do printf '%b' "$text"; done >"$dir/$1.der"
+    out/benches "$1" | tr -d '\n' | sed 's/../\\x&/g' | while IFS= read -r text || [ -n "$text" ]; do printf '%b' "$text"; done >"$dir/$1.der"
     openssl asn1parse -inform DER -in "$dir/$1.der" >"$dir/$1.parse"
 }
 

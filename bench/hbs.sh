@@ -8,10 +8,11 @@
 #         each height. Steps in the mean: 133, 200, 506, 4442 for W = 1, 2, 4, 8.
 #   XMSS  1 that is kept, 3 for the message, 4 for each of 505 steps in the mean, 6 for each of the
 #         66 pairs of the L-tree and for each height.
+#   XMSS^MT  the same, where the steps, the pairs and the heights count once for each layer.
 set -e
-cd "$(dirname "$0")/../crates/hbs_bench"
+cd "$(dirname "$0")/../crates/benches"
 rt run > /dev/null 2>&1
-program=out/hbs_bench
+program=out/benches
 
 # The microseconds that the program takes for some words.
 micros() {
@@ -47,4 +48,10 @@ done
 heights=(0 10 16 20)
 for set in 1 2 3; do
   report "xmss h=${heights[set]}" $((4 + 4 * 505 + 6 * 66 + 6 * heights[set])) 400 xmss $set
+done
+layers=(0 2 4 2 4 8 3 6 12)
+heights=(0 10 5 20 10 5 20 10 5)
+for set in 1 2 3 4 5 6 7 8; do
+  blocks=$((4 + layers[set] * (4 * 505 + 6 * 66 + 6 * heights[set])))
+  report "xmssmt h=$((layers[set] * heights[set])) d=${layers[set]}" $blocks $((800 / layers[set])) xmssmt $set
 done

@@ -1,14 +1,15 @@
-//! The case that is timed, with its policy.
+//! A case of 64 stamps over 256 objects, with its policy.
 
 ghost use Rattle.std.specs.Prelude.{◌≡◌, ◌<◌, length, pos, neg_ℤ};
 ghost use Rattle.jiff_core.specs.Calendar.{IsBetween};
 
+use crate::failed::Failed;
 use algorithms::{Digest, DigestKind, Hasher};
 use existence_times::Case;
 use policy_rules::Policy;
-use sample_cases::{CaseFault, put_certificate, put_list, put_stamp, put_token, trusting};
-use sample_world::{Role, World, WorldFault};
-use std::alloc::{AllocFailed, Global};
+use sample_cases::{put_certificate, put_list, put_stamp, put_token, trusting};
+use sample_world::{Role, World};
+use std::alloc::Global;
 use x509_certs::read_certificate;
 use xa_io::{Octets, Octs};
 
@@ -19,32 +20,11 @@ const REFERENCES: u32 = 166;
 /// The day of the judging.
 pub const NOW: u16 = 400;
 
-// The days at which the certificates end, but the first stamper's, and at which that one's and the authorities' end.
+// The day at which the other stampers' certificates end.
 const SOON: u16 = 300;
 
-const LATE: u16 = 1000;
-
-/// The case can't be built.
-#[derive(Clone, Copy, Debug)]
-pub struct Failed;
-
-impl From<WorldFault> for Failed {
-    fn from(_: WorldFault) -> Failed {
-        Failed
-    }
-}
-
-impl From<CaseFault> for Failed {
-    fn from(_: CaseFault) -> Failed {
-        Failed
-    }
-}
-
-impl<T: Drop> From<AllocFailed<T>> for Failed {
-    fn from(_: AllocFailed<T>) -> Failed {
-        Failed
-    }
-}
+/// The day at which the first stamper's certificate and the authorities' end.
+pub const LATE: u16 = 1000;
 
 /// A case, and the policy by which it is judged.
 #[derive(Drop)]
