@@ -93,8 +93,8 @@ impl Draft {
         }
     }
 
-    // The time of signing.
-    pub(crate) fn time(&self) -> &[u8]
+    /// The time of signing, as its text has it.
+    pub fn time(&self) -> &[u8]
         ensures { result.now ≡ self.now.time }
     {
         &self.time
