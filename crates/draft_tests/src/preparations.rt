@@ -1,4 +1,4 @@
-//! Documents that are prepared, and drafts that are refused. The digests were worked out with OpenSSL.
+//! A document that is prepared, and those that are refused. The digests were worked out with OpenSSL.
 
 use crate::scene::{Scene, Wish};
 use augmenter::{Code, Refusal};
@@ -67,7 +67,7 @@ fn documents_that_are_no_documents(rt: HostRuntime) -> Result<(), Fail> {
 
 const SIGNED: &[u8] = b"<r><ds:Signature xmlns:ds=\"http://www.w3.org/2000/09/xmldsig#\"/></r>";
 
-// Documents that are refused for the element that the URI asks for, and the codes.
+// Documents that are refused where the first URI is `#x`, and the codes.
 const ROWS: [(&[u8], u8); 5] = [
     (SIGNED, 2),
     (b"<r/>", 6),
