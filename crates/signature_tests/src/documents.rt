@@ -34,6 +34,7 @@ pub(crate) struct Texts {
     authority: String,
     signer: String,
     list: String,
+    stamper: String,
     token: String,
     digest: String,
 }
@@ -48,6 +49,7 @@ pub(crate) fn texts_of(alloc: Global, objects: &Objects) -> Result<Texts, Fail> 
         authority: spelled(alloc, objects.authority.as_slice())?,
         signer: spelled(alloc, signer)?,
         list: spelled(alloc, objects.list.as_slice())?,
+        stamper: spelled(alloc, objects.stamper.as_slice())?,
         token: spelled(alloc, objects.token.as_slice())?,
         digest: spelled(alloc, digest_of(signer).as_slice())?,
     })
@@ -118,6 +120,16 @@ pub(crate) fn few(alloc: Global, texts: &Texts) -> Result<String, Fail> {
     Ok(format!(in alloc; "{first}{inner}")?)
 }
 
+// A time-stamp, and the certificate of its signer, which stands in its token too.
+fn stamper_twice(alloc: Global, texts: &Texts) -> Result<String, Fail> {
+    let stamp = stamp(alloc, texts, "SignatureTimeStamp", V132)?;
+    let (stamp, stamper) = (stamp.as_str(), texts.stamper.as_str());
+    Ok(format!(in alloc;
+        "{stamp}<xades:CertificateValues><xades:EncapsulatedX509Certificate>{stamper}</xades:EncapsulatedX509Certificate>\
+</xades:CertificateValues>"
+    )?)
+}
+
 // A document by the text of its value, the text of the digest of the first Cert, and its unsigned signature properties.
 fn document(
     alloc: Global,
@@ -158,4 +170,15 @@ pub(crate) fn with_bad(alloc: Global, texts: &Texts) -> Result<String, Fail> {
         "{first}<xades:SignatureTimeStamp><xades:EncapsulatedTimeStamp>MAA=</xades:EncapsulatedTimeStamp></xades:SignatureTimeStamp>"
     )?;
     document(alloc, texts, "", "AAAA", properties.as_str())
+}
+
+pub(crate) fn with_stamper_twice(alloc: Global, texts: &Texts) -> Result<String, Fail> {
+    let properties = stamper_twice(alloc, texts)?;
+    document(
+        alloc,
+        texts,
+        "AQID",
+        texts.digest.as_str(),
+        properties.as_str(),
+    )
 }

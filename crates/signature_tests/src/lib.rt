@@ -1,9 +1,11 @@
 //! Tests of reading signatures: elements and text, the lines of the shape, faults, and whole signatures that hold objects of the made-up
-//! world.
+//! world, with the number of these objects.
 #![tactic(auto)]
 
 #[cfg(test)]
 mod changed;
+#[cfg(test)]
+mod counted;
 #[cfg(test)]
 mod documents;
 #[cfg(test)]

@@ -19,6 +19,7 @@ pub(crate) struct Objects {
     pub(crate) authority: Octs,
     pub(crate) signer: Octs,
     pub(crate) list: Octs,
+    pub(crate) stamper: Octs,
     pub(crate) token: Octs,
 }
 
@@ -30,9 +31,7 @@ pub(crate) fn digest_of(octets: &[u8]) -> Digest
     hasher.finish()
 }
 
-fn made_token(world: &mut World) -> Result<Octs, Fail> {
-    let stamper = world.certificate(0, 2, START, END, Role::Stamper)?;
-    let stamper = stamper.as_slice();
+fn made_token(world: &mut World, stamper: &[u8]) -> Result<Octs, Fail> {
     match read_certificate(stamper) {
         Ok(_) => Ok(world.token(2, stamper, &digest_of(b"abc"), DigestKind::Sha256, START)?),
         Err(_) => Err(Fail::new("no certificate")),
@@ -41,10 +40,16 @@ fn made_token(world: &mut World) -> Result<Octs, Fail> {
 
 pub(crate) fn made(alloc: Global) -> Result<Objects, Fail> {
     let mut world = World::new(alloc, 3);
+    let authority = world.certificate(0, 0, START, END, Role::Authority)?;
+    let signer = world.certificate(0, 1, START, END, Role::Signer)?;
+    let list = world.crl(0, START, END, None)?;
+    let stamper = world.certificate(0, 2, START, END, Role::Stamper)?;
+    let token = made_token(&mut world, stamper.as_slice())?;
     Ok(Objects {
-        authority: world.certificate(0, 0, START, END, Role::Authority)?,
-        signer: world.certificate(0, 1, START, END, Role::Signer)?,
-        list: world.crl(0, START, END, None)?,
-        token: made_token(&mut world)?,
+        authority,
+        signer,
+        list,
+        stamper,
+        token,
     })
 }

@@ -1,0 +1,12 @@
+use Rattle.std.proofs.Common.{sym, ◌∙◌}
+use Rattle.signature_objects.specs.Met.{with_bytes}
+use Rattle.signature_objects.proofs.Gathered.{one_more}
+use Rattle.signature_objects.proofs.counting.meet_key_certs.Goals as goal
+
+pub loop-number-preserved : goal.loop-number-preserved
+loop-number-preserved c = λ all met.
+    let so_far = c.loop-number.invariant all met in (
+      with_bytes so_far.0 c.key_cert.result.now,
+      c.in_ok-meet.ensures so_far.0 so_far.1,
+      sym (one_more so_far.0 c.args.parts.now.key_certs c.loop-number.number c.key_cert.result.now c.key_cert.ensures) ∙ so_far.2,
+    )
