@@ -1,0 +1,4 @@
+pub mod Sound
+pub mod Times
+pub mod Orders
+pub mod Faults
