@@ -1,4 +1,4 @@
-mod Written
+pub mod Written
 mod QuotedTexts
 mod SimpleTexts
 mod ReferenceOctets

@@ -13,5 +13,6 @@ mod standing;
 mod uris;
 
 pub use draft::Draft;
+pub use pieces::put_base64;
 pub use properties::properties_text;
 pub use signature::{Digests, put_signature};

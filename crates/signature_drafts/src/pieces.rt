@@ -27,8 +27,8 @@ pub(crate) fn put_number(out: &mut Octs, number: u32) -> Result<(), OutOfMemory>
     out.push_all(buffer.format(number).as_bytes())
 }
 
-// Appends unbroken base64 with padding.
-pub(crate) fn put_base64(alloc: Global, out: &mut Octs, octets: &[u8]) -> Result<(), OutOfMemory>
+/// Appends octets as unbroken base64 with padding (RFC 4648, section 4).
+pub fn put_base64(alloc: Global, out: &mut Octs, octets: &[u8]) -> Result<(), OutOfMemory>
     ensures { OnOk result (out.new ≡ out.old ++ written_octets (encoded octets.now)) }
 {
     match STANDARD.encode(alloc, octets) {
