@@ -1,0 +1,2 @@
+mod NumberedObjects
+mod WholeReports

@@ -1,0 +1,9 @@
+pub mod Numbers
+pub mod Whole
+pub mod Renewed
+pub mod InRange
+pub mod Answered
+pub mod Reported
+pub mod Material
+pub mod Faulty
+pub mod Told

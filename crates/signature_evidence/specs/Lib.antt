@@ -1,0 +1,10 @@
+pub mod Pools
+pub mod Evidence
+pub mod Cases
+pub mod Judging
+pub mod Soundness
+pub mod Answers
+pub mod Report
+pub mod Renewal
+pub mod Reporting
+pub mod Material
