@@ -4,3 +4,5 @@ mod NamedOctets
 mod DigestBytes
 mod Preparation
 mod Outcomes
+mod OneItem
+mod Steps

@@ -23,11 +23,11 @@ use Rattle.signature_model.specs.Chains.{Handed}
 use Rattle.signature_model.specs.Fragments.{written_octets}
 use Rattle.signature_model.specs.Prepared.{Draft, prepared_nodes}
 use Rattle.augmenter.specs.Answers.{IsPreparation}
-use Rattle.augmenter.specs.Codes.{first_code}
+use Rattle.signature_checks.specs.Codes.{first_code}
 use Rattle.augmenter.specs.Preparing.{drafted_bytes, is_too_large, opening_tests}
 use Rattle.augmenter.specs.declared.refusals.Refusal.{Refusal}
 use Rattle.augmenter.specs.declared.refusals.Refusal.TheVariants.{Refused}
-use Rattle.augmenter.specs.declared.codes.Code.TheVariants.{TooLarge, IdTaken}
+use Rattle.signature_checks.specs.declared.codes.Code.TheVariants.{TooLarge, IdTaken}
 use Rattle.augmenter.proofs.DigestBytes.{digests_are_bytes}
 use Rattle.augmenter.proofs.Preparation.{code_is, passed_is_large, small_is_not_large, tests_passed}
 

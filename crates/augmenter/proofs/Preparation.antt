@@ -22,10 +22,10 @@ use Rattle.signature_model.specs.Chains.{Handed, when}
 use Rattle.signature_model.specs.Parts.{counted}
 use Rattle.signature_model.specs.Prepared.{Draft, first_certificate, root_path}
 use Rattle.augmenter.specs.Answers.{IsPreparation, IsRefusedFor}
-use Rattle.augmenter.specs.Codes.{first_code}
+use Rattle.signature_checks.specs.Codes.{first_code}
 use Rattle.augmenter.specs.Preparing.{passes_limit, is_too_large, opening_tests, draft_code, drafted_bytes}
-use Rattle.augmenter.specs.declared.codes.Code.{Code}
-use Rattle.augmenter.specs.declared.codes.Code.TheVariants.{TooLarge, IdTaken}
+use Rattle.signature_checks.specs.declared.codes.Code.{Code}
+use Rattle.signature_checks.specs.declared.codes.Code.TheVariants.{TooLarge, IdTaken}
 use Rattle.augmenter.specs.declared.refusals.Refusal.{Refusal}
 use Rattle.augmenter.specs.declared.refusals.Refusal.TheVariants.{BadDocument, Refused, OutOfMemory}
 
@@ -85,12 +85,12 @@ is_first draft octets e = by_list draft.certificates refl e
 
 -- Tests one behind another.
 
-code_found : (a b : List (Option Code)) (code : Code) → first_code a ≡ Some code → first_code (a ++ b) ≡ Some code
+pub code_found : (a b : List (Option Code)) (code : Code) → first_code a ≡ Some code → first_code (a ++ b) ≡ Some code
 code_found [] b code e = cc
 code_found (None ∷ a) b code e = code_found a b code e
 code_found (Some other ∷ a) b code e = e
 
-none_found : (a b : List (Option Code)) → first_code a ≡ None → first_code (a ++ b) ≡ first_code b
+pub none_found : (a b : List (Option Code)) → first_code a ≡ None → first_code (a ++ b) ≡ first_code b
 none_found [] b e = refl
 none_found (None ∷ a) b e = none_found a b e
 none_found (Some other ∷ a) b e = cc
@@ -143,11 +143,11 @@ small_is_not_large new short none = (λ i. not_longer i || passes_limit (none i)
 
 -- All tests passed.
 
-nothing_there : (b : Bool) (code : Code) → when b code ≡ None → b ≡ false
+pub nothing_there : (b : Bool) (code : Code) → when b code ≡ None → b ≡ false
 nothing_there true code e = cc
 nothing_there false code e = refl
 
-no_number : (make : ℕ → Code) (o : Option ℕ) → option_map make o ≡ None → o ≡ None
+pub no_number : (make : ℕ → Code) (o : Option ℕ) → option_map make o ≡ None → o ≡ None
 no_number make None e = refl
 no_number make (Some k) e = cc
 

@@ -8,7 +8,7 @@ use Rattle.policy_rules.specs.Rules.{Rules}
 use Rattle.signature_model.specs.Chains.{Handed}
 use Rattle.signature_model.specs.Prepared.{Draft}
 use Rattle.augmenter.specs.Preparing.{draft_code, drafted_bytes}
-use Rattle.augmenter.specs.declared.codes.Code.{Code}
+use Rattle.signature_checks.specs.declared.codes.Code.{Code}
 use Rattle.augmenter.specs.declared.refusals.Refusal.{Refusal}
 use Rattle.augmenter.specs.declared.refusals.Refusal.TheVariants.{BadDocument, Refused, OutOfMemory}
 

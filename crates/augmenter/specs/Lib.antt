@@ -1,5 +1,6 @@
-pub mod Codes
 pub mod Targets
-pub mod Keys
 pub mod Preparing
 pub mod Answers
+pub mod Items
+pub mod Attaching
+pub mod Judging

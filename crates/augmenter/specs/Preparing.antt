@@ -1,10 +1,9 @@
 -- When a document may be prepared for a draft: the tests in the order of their codes. Codes and their order are this project's own.
-use Rattle.std.specs.Prelude.{ℕ, ◌≤◌, nat_lt, Bool, true, false, not, ◌||◌, List, [], ◌∷◌, ◌++◌, length, Option, None, Some, option_map, encode_utf8_all}
+use Rattle.std.specs.Prelude.{ℕ, ◌≤◌, nat_lt, Bool, true, false, not, ◌||◌, List, [], ◌∷◌, ◌++◌, length, Option, None, Some, option_map}
 use Rattle.document_model.specs.Characters.{is_empty}
 use Rattle.document_model.specs.Documents.{Fault, Depth, TooMany, fault}
 use Rattle.document_model.specs.Tree.{Nodes}
-use Rattle.algorithms.specs.declared.signature_kinds.SignatureKind.{SignatureKind}
-use Rattle.policy_rules.specs.Rules.{Rules, kind_of_uri}
+use Rattle.policy_rules.specs.Rules.{Rules}
 use Rattle.insertions.specs.Live.{longest}
 use Rattle.signature_model.specs.Chains.{Handed, when}
 use Rattle.signature_model.specs.Parts.{counted}
@@ -14,14 +13,10 @@ use Rattle.qualifying_props.specs.Whole.{is_whole}
 use Rattle.insertion_fragments.specs.Drafts.{IsWritable}
 use Rattle.prepared_documents.specs.PreparedRead.{IsComplete}
 use Rattle.prepared_documents.specs.Tests.{missing_at, double_at, root_at, id_taken}
-use Rattle.augmenter.specs.Codes.{first_code}
-use Rattle.augmenter.specs.Keys.{method_test, key_test}
-use Rattle.augmenter.specs.declared.codes.Code.{Code}
-use Rattle.augmenter.specs.declared.codes.Code.TheVariants.{Several, TargetMissing, TargetTwice, SelfCover, TooLarge, IdTaken}
-
--- the kind of a signature method, by a policy
-abbrev pub method_kind : Rules → List ℕ → Option SignatureKind
-method_kind rules method = kind_of_uri rules.kinds (encode_utf8_all method)
+use Rattle.signature_checks.specs.Codes.{first_code}
+use Rattle.signature_checks.specs.Keys.{method_kind, method_test, key_test}
+use Rattle.signature_checks.specs.declared.codes.Code.{Code}
+use Rattle.signature_checks.specs.declared.codes.Code.TheVariants.{Several, TargetMissing, TargetTwice, SelfCover, TooLarge, IdTaken}
 
 -- whether a fault of a document is that a limit on depth or nodes is passed
 abbrev pub passes_limit : Option Fault → Bool

@@ -1,9 +1,10 @@
-//! Signatures that are prepared: the unsigned signature that a draft puts into a document, or why it can't be put in (XML Signature 1.1,
-//! section 3.1; EN 319 132-1, clauses 4 and 5).
+//! Signatures that are made: the unsigned signature that a draft puts into a document, what is attached to it later, and why it can't be put
+//! in (XML Signature 1.1, section 3.1; EN 319 132-1, clauses 4 and 5).
 #![tactic(auto)]
 
-mod codes;
-mod methods;
+mod attaching;
+mod items;
+mod judging;
 mod named_octets;
 mod preparing;
 mod reading;
@@ -11,7 +12,9 @@ mod refusals;
 mod taken;
 mod targets;
 
-pub use codes::Code;
+pub use attaching::attach;
+pub use items::{Item, ItemKind};
 pub use preparing::prepare;
 pub use refusals::Refusal;
+pub use signature_checks::Code;
 pub use signature_drafts::Draft;

@@ -11,22 +11,14 @@ ghost use Rattle.signature_model.specs.Chains.{place_named};
 ghost use Rattle.signature_model.specs.Prepared.{named_octets};
 ghost use Rattle.augmenter.specs.Targets.{ArePlaces};
 
-use algorithms::{Digest, DigestKind, Hasher};
+use algorithms::{Digest, DigestKind};
 use canon_forms::{Form, Prefixes, to_vec};
 use doc_spans::Doc;
 use reference_chains::{Externals, Place, target_set};
+use signature_checks::digest_of;
 use signature_drafts::Draft;
 use std::alloc::Global;
-use xa_io::{Octets, OutOfMemory};
-
-// The digest of octets.
-pub(crate) fn digest_of(kind: DigestKind, octets: &[u8]) -> Digest
-    ensures { result ≡ digest_of kind octets.now }
-{
-    let mut hasher = Hasher::new(kind);
-    hasher.put(octets);
-    hasher.finish()
-}
+use xa_io::OutOfMemory;
 
 // The digest of the octets that a URI names: the exclusive canonical form of the document or of an element, without comments, or what is
 // handed in.

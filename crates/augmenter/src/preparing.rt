@@ -17,13 +17,11 @@ ghost use Rattle.signature_model.specs.Prepared.{first_certificate, prepared_nod
 ghost use Rattle.signature_drafts.specs.Digests.{IsPlain};
 ghost use Rattle.augmenter.specs.Answers.{IsPreparation};
 ghost use Rattle.augmenter.specs.Preparing.{IsReady, opening_tests};
-ghost use Rattle.augmenter.specs.Codes.{first_code};
+ghost use Rattle.signature_checks.specs.Codes.{first_code};
 ghost use Rattle.augmenter.specs.Answers.{IsRefusedFor};
 ghost use Rattle.augmenter.specs.Targets.{ArePlaces};
 
-use crate::codes::Code;
-use crate::methods::judge_method;
-use crate::named_octets::{digest_of, named_digests};
+use crate::named_octets::named_digests;
 use crate::reading::read;
 use crate::refusals::{Refusal, refuse};
 use crate::taken::is_any_taken;
@@ -33,6 +31,7 @@ use insertions::GraftFault;
 use node_index::Identifiers;
 use policy_rules::Policy;
 use reference_chains::{Externals, Place};
+use signature_checks::{Code, digest_of, judge_method};
 use signature_drafts::{Digests, Draft, properties_text, put_signature};
 use signature_elements::{SignatureCount, counted};
 use std::alloc::Global;
@@ -129,7 +128,7 @@ fn plan(
 /// EN 319 132-1, clauses 4 and 5). The digests are of what the draft's URIs name in the document as it is, and of what is handed in for
 /// external ones.
 ///
-/// The draft has 1 to 8 whole certificates and 1 to 15 URIs, whose external octets are handed in.
+/// The draft has at least one certificate, all of them whole, and at most 15 URIs, whose external octets are handed in.
 ///
 /// Err: the document is refused; or the first code that stands against the draft, as item 0: a signature is there (A2), a URI names no
 /// element (A6), several (A7) or the document element (A12), the policy doesn't list the method (A17), the key of the first certificate is

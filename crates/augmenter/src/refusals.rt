@@ -2,8 +2,8 @@
 
 ghost use Rattle.std.specs.Prelude.{◌≡◌};
 
-use crate::codes::Code;
 use doc_spans::DocFault;
+use signature_checks::Code;
 use thiserror::Error;
 use xa_io::OutOfMemory;
 

@@ -1,12 +1,17 @@
 -- Whether a certificate has a key for a signature method: XML Signature 1.1, "The SignatureMethod Element"; RFC 9802, section 3.
-use Rattle.std.specs.Prelude.{ℕ, Bool, not, List, Option, None, Some, is_none}
+use Rattle.std.specs.Prelude.{ℕ, Bool, not, List, Option, None, Some, is_none, encode_utf8_all}
 use Rattle.std.specs.Str.{bytes_eq}
 use Rattle.algorithms.specs.declared.signature_kinds.SignatureKind.{SignatureKind}
 use Rattle.algorithms.specs.SignatureKind.{oid_of}
+use Rattle.policy_rules.specs.Rules.{Rules, kind_of_uri}
 use Rattle.x509_certs.specs.Certificates.{key_oid}
 use Rattle.signature_model.specs.Chains.{when}
-use Rattle.augmenter.specs.declared.codes.Code.{Code}
-use Rattle.augmenter.specs.declared.codes.Code.TheVariants.{UnknownMethod, KeyKind}
+use Rattle.signature_checks.specs.declared.codes.Code.{Code}
+use Rattle.signature_checks.specs.declared.codes.Code.TheVariants.{UnknownMethod, KeyKind}
+
+-- the kind of a signature method, by a policy
+abbrev pub method_kind : Rules → List ℕ → Option SignatureKind
+method_kind rules method = kind_of_uri rules.kinds (encode_utf8_all method)
 
 -- whether the key of a certificate is of a kind
 abbrev pub has_key_of : SignatureKind → List ℕ → Bool

@@ -1,8 +1,8 @@
 -- Codes by which items are refused, and the first of several tests that finds one. Codes and their order are this project's own.
 use Rattle.std.specs.Prelude.{ℕ, List, [], ◌∷◌, Option, None}
 use Rattle.document_model.specs.Items.{or_else}
-use Rattle.augmenter.specs.declared.codes.Code.{Code}
-use Rattle.augmenter.specs.declared.codes.Code.TheVariants as codes
+use Rattle.signature_checks.specs.declared.codes.Code.{Code}
+use Rattle.signature_checks.specs.declared.codes.Code.TheVariants as codes
 
 -- the code of the first test that finds one
 abbrev pub first_code : List (Option Code) → Option Code

@@ -7,8 +7,8 @@ ghost use Rattle.policy_rules.specs.View.{rules};
 ghost use Rattle.qualifying_props.specs.Whole.{IsWhole};
 ghost use Rattle.signature_model.specs.Parts.{Certificate as IsCertificate};
 ghost use Rattle.document_model.specs.Items.{or_else};
-ghost use Rattle.augmenter.specs.Keys.{has_key_of, key_test, method_test};
-ghost use Rattle.augmenter.specs.Preparing.{method_kind};
+ghost use Rattle.signature_checks.specs.Keys.{has_key_of, key_test, method_test};
+ghost use Rattle.signature_checks.specs.Keys.{method_kind};
 
 use crate::codes::Code;
 use algorithms::SignatureKind;
@@ -26,9 +26,9 @@ fn has_key_of(kind: SignatureKind, certificate: &[u8]) -> bool
     }
 }
 
-/// What stands against a signature method and the certificate of a signer by a policy: the policy doesn't list the method, or the key is
-/// of another kind.
-pub(crate) fn judge_method(policy: &Policy, method: &str, certificate: &[u8]) -> Option<Code>
+/// What stands against a signature method and the certificate of a signer by a policy: the policy doesn't list the method (A17), or the key
+/// is of another kind (A18).
+pub fn judge_method(policy: &Policy, method: &str, certificate: &[u8]) -> Option<Code>
     requires { IsWhole IsCertificate certificate.now }
     ensures { result ≡ or_else (method_test (method_kind (rules policy.now) (chars method.now))) (key_test (method_kind (rules policy.now) (chars method.now)) certificate.now) }
 {

@@ -4,9 +4,9 @@ use Rattle.document_model.specs.Items.{or_else}
 use Rattle.policy_rules.specs.Rules.{kind_of_uri}
 use Rattle.policy_rules.specs.View.{rules}
 use Rattle.signature_model.specs.Chains.{when}
-use Rattle.augmenter.specs.Keys.{key_test, method_test}
-use Rattle.augmenter.specs.declared.codes.Code.TheVariants.{KeyKind}
-use Rattle.augmenter.proofs.methods.judge_method.Goals as goal
+use Rattle.signature_checks.specs.Keys.{key_test, method_test}
+use Rattle.signature_checks.specs.declared.codes.Code.TheVariants.{KeyKind}
+use Rattle.signature_checks.proofs.keys.judge_method.Goals as goal
 
 pub returns-in-None : goal.returns-in-None
 returns-in-None c =

@@ -53,7 +53,7 @@ pub enum Code {
 }
 
 impl Code {
-    ghost use Rattle.augmenter.specs.Codes.{code_number};
+    ghost use Rattle.signature_checks.specs.Codes.{code_number};
 
     /// The number of the code.
     pub fn number(&self) -> u8

@@ -1,0 +1,3 @@
+mod FaultPlaces
+mod Differing
+mod Found
