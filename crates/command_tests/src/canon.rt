@@ -210,6 +210,16 @@ const STRAY: &[(&[&str], u8)] = &[
     (&["octets", "doc=a", "for=archive"], b'3'),
     (&["octets", "doc=a", "for=signature", "ext="], b'4'),
     (&["octets", "doc=a", "for=signature", "ext=e", "id=x"], b'5'),
+    (&["prepare"], b'2'),
+    (&["prepare", "doc=a", "cert=c"], b'3'),
+    (
+        &["prepare", "doc=a", "policy=p", "time=2030-01-01T00:00:00Z"],
+        b'4',
+    ),
+    (
+        &["prepare", "doc=a", "policy=p", "cert=c", "time=2030-01-01"],
+        b'5',
+    ),
     (&["canon", "doc=a", "for=signature"], b'3'),
     (&["canon", "doc=a", "id=x", "id=x"], b'4'),
     (&["canon", "doc=a", "comments=no", "form=exclusive"], b'4'),

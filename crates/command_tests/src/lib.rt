@@ -2,6 +2,8 @@
 #![tactic(auto)]
 
 #[cfg(test)]
+mod attach;
+#[cfg(test)]
 mod canon;
 #[cfg(test)]
 mod failing;
@@ -9,6 +11,8 @@ mod failing;
 mod octets;
 #[cfg(test)]
 mod outside;
+#[cfg(test)]
+mod prepare;
 #[cfg(test)]
 mod runs;
 #[cfg(test)]

@@ -26,6 +26,28 @@ is_document Archive = false
 is_document External = false
 is_document More = false
 
+abbrev pub is_policy : Role → Bool
+is_policy Policy = true
+is_policy Document = false
+is_policy Certificate = false
+is_policy Value = false
+is_policy Stamp = false
+is_policy Data = false
+is_policy Archive = false
+is_policy External = false
+is_policy More = false
+
+abbrev pub is_certificate : Role → Bool
+is_certificate Certificate = true
+is_certificate Document = false
+is_certificate Policy = false
+is_certificate Value = false
+is_certificate Stamp = false
+is_certificate Data = false
+is_certificate Archive = false
+is_certificate External = false
+is_certificate More = false
+
 abbrev pub is_external : Role → Bool
 is_external External = true
 is_external Document = false

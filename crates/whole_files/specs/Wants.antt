@@ -4,7 +4,7 @@ use Rattle.xa_io.specs.Shelf.{Files}
 use Rattle.whole_files.specs.declared.file.File.{File}
 use Rattle.whole_files.specs.declared.file.Wanted.{Wanted}
 use Rattle.whole_files.specs.declared.role.Role.{Role}
-use Rattle.whole_files.specs.Roles.{limit_of, is_document}
+use Rattle.whole_files.specs.Roles.{limit_of, is_document, is_policy}
 
 -- a file that is wanted: what it is for, and its name
 pub record Want : Type 0 where
@@ -47,6 +47,11 @@ AreHeld shelf (want ∷ wants) (file ∷ files) = (IsFor want file × (shelf wan
 abbrev pub document_of : List Held → List ℕ
 document_of [] = []
 document_of (file ∷ files) = if is_document file.role then file.bytes else document_of files
+
+-- the bytes of the policy
+abbrev pub policy_of : List Held → List ℕ
+policy_of [] = []
+policy_of (file ∷ files) = if is_policy file.role then file.bytes else policy_of files
 
 -- the names of files that are wanted
 abbrev pub names_of : List Want → List (List ℕ)

@@ -6,6 +6,7 @@ mod fault;
 mod file;
 mod laws;
 mod plan;
+mod policy;
 mod read;
 mod role;
 
@@ -14,4 +15,5 @@ pub use fault::{FileFault, Unread};
 pub use file::{File, Wanted};
 pub use laws::held_files_are_one;
 pub use plan::read_files;
+pub use policy::policy_of;
 pub use role::Role;

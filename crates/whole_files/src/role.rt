@@ -26,7 +26,7 @@ pub enum Role {
 }
 
 impl Role {
-    ghost use Rattle.whole_files.specs.Roles.{limit_of, is_document, is_external};
+    ghost use Rattle.whole_files.specs.Roles.{limit_of, is_document, is_policy, is_certificate, is_external};
 
     /// The most bytes that such a file may have.
     pub fn limit(self) -> u64
@@ -47,6 +47,26 @@ impl Role {
     {
         match self {
             Role::Document => true,
+            _ => false,
+        }
+    }
+
+    // Whether it is the policy.
+    pub(crate) fn is_policy(self) -> bool
+        ensures { result ≡ is_policy self }
+    {
+        match self {
+            Role::Policy => true,
+            _ => false,
+        }
+    }
+
+    /// Whether it is a certificate for the signature that is prepared.
+    pub fn is_certificate(self) -> bool
+        ensures { result ≡ is_certificate self }
+    {
+        match self {
+            Role::Certificate => true,
             _ => false,
         }
     }

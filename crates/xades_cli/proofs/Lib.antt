@@ -7,3 +7,8 @@ pub mod MakerLemmas
 pub mod WordLemmas
 pub mod HandingLemmas
 pub mod FaultPlaces
+pub mod TimeTexts
+pub mod WritableTexts
+pub mod ReadyDrafts
+pub mod PrepareLemmas
+mod AttachLemmas

@@ -9,9 +9,9 @@ use Rattle.word_patterns.specs.Good.{AreGood}
 use Rattle.word_patterns.specs.Grammar.{Part, Plain, Keyed, Fits, once, text_behind}
 use Rattle.word_patterns.specs.TextForms.{is_time, is_signature_id, is_some_uri, is_uri, is_file_name}
 use Rattle.word_patterns.proofs.FittingTexts.{first_text, keyed_few, texts_fit}
-use Rattle.xades_cli.specs.Attaching.{IsAttachable, attach_words, attaches_by, item_keys, item_words}
-use Rattle.xades_cli.specs.Preparing.{IsPreparable, digest_word, names_file, prepare_words, prepares_by}
-use Rattle.xades_cli.specs.Words.{external_words, file_word}
+use Rattle.xades_cli.specs.Attaching.{IsAttachable, attaches_by, item_keys}
+use Rattle.xades_cli.specs.Preparing.{IsPreparable, names_file, prepares_by}
+use Rattle.xades_cli.specs.Words.{attach_words, item_words, digest_word, external_words, file_word, prepare_words}
 
 -- the empty URI names no file
 pub no_name : (uri : List ℕ) → length uri ≡ 0 → false ≡ names_file uri

@@ -1,6 +1,6 @@
 -- How runs end: with an answer that is given out, or by a stop.
 use Rattle.std.proofs.Common.{◌≡◌, ℕ, ◌≤◌, List, refl, sym, ap, ◌∙◌, subst, inl, inr, arith}
-use Rattle.std.specs.Prelude.{true, false, Option, Some, Err}
+use Rattle.std.specs.Prelude.{true, false, Option, Some, Result, Ok, Err}
 use Rattle.doc_spans.specs.declared.faults.DocFault.{DocFault}
 use Rattle.doc_spans.specs.declared.faults.DocFault.TheVariants as documents
 use Rattle.policy_rules.specs.declared.fault.PolicyFault.{PolicyFault}
@@ -10,17 +10,19 @@ use Rattle.xa_io.specs.Shelf.{Files}
 use Rattle.xa_io.specs.Sink.{appended, GaveFirst}
 use Rattle.whole_files.specs.Asking.{AsksInOrder}
 use Rattle.whole_files.specs.Faults.{HasGrown}
-use Rattle.whole_files.specs.Wants.{names_of}
+use Rattle.whole_files.specs.Wants.{Held, AreFor, names_of, AreHeld}
 use Rattle.whole_files.specs.declared.fault.FileFault.TheVariants as faults
 use Rattle.word_patterns.proofs.GrammarLemmas.{faulty_don't_fit}
 use Rattle.xades_cli.specs.Asked.{Asked, asked_by}
-use Rattle.xades_cli.specs.Commands.{wants_of, ComesTo}
+use Rattle.xades_cli.specs.Commands.{wants_of, ComesTo, IsComputed}
 use Rattle.xades_cli.specs.Giving.{IsGiven}
 use Rattle.xades_cli.specs.Judging.{IsJudged, IsJudgedRight, IsAnswered, HasStopCause}
 use Rattle.xades_cli.specs.Lines.{IsSized}
 use Rattle.xades_cli.specs.Outcomes.{Outcome, Writes, Reports, RefusesDocument, RefusesPolicy, RefusesData, RefusesItem, IsFaultyDocument, IsToldOfPolicy, Gives, Refuses, Follows}
 use Rattle.xades_cli.specs.Runs.{IsRun, IsCarriedOut, HoldsNoMemory, ShelfState, SinkState, stage_of, OfOutcome, IsByWords, IsRight, HasCause}
-use Rattle.xades_cli.specs.Stops.{ended_by, ended_by_refusal}
+use Rattle.whole_files.specs.declared.fault.Unread.{Unread}
+use Rattle.whole_files.specs.declared.fault.Unread.TheVariants as unread
+use Rattle.xades_cli.specs.Stops.{ended_by, ended_by_refusal, stop_unread}
 use Rattle.xades_cli.specs.Words.{patterns, IsCommand}
 use Rattle.xades_cli.specs.declared.answers.Answer.{Answer}
 use Rattle.xades_cli.specs.declared.answers.Answer.TheVariants.{Text, Report}
@@ -31,7 +33,7 @@ use Rattle.xades_cli.specs.declared.stop.Refusal.TheVariants as refusals
 use Rattle.xades_cli.specs.declared.stop.Stop.{Stop}
 use Rattle.xades_cli.specs.declared.stop.Stop.TheVariants as stops
 use Rattle.xades_cli.proofs.CommandLemmas.{comes_once}
-use Rattle.xades_cli.proofs.DoneLemmas.{carried_done}
+use Rattle.xades_cli.proofs.DoneLemmas.{answer_done}
 use Rattle.whole_files.proofs.HeldLemmas.{held_once, none_missing, none_too_long}
 
 -- what is refused follows the outcome, and nothing is given
@@ -118,7 +120,7 @@ answered words shelf shelf_now out out_now answer status command told asks held 
     } in record {
       by_words = subst (IsByWords words) stage command;
       told = λ files e fits. subst (IsRight (asked_by words) files status out.given out_now.given) stage (carried files e);
-      done = λ files e fits. carried_done (asked_by words) files status out.given out_now.given (carried files e);
+      done = λ files e fits ends. let a = told files e in answer_done (asked_by words) files a.files answer out.given out_now.given a.held (subst (λ s. IsGiven answer s out.given out_now.given) ends given) a.says;
       cause = subst (HasCause (wants_of (asked_by words)) shelf.counts shelf_now.counts) stage tt;
       write = write;
       complete = λ files e fits fine sound all whole. inr (carried files e, λ fault. sound (write fault));
@@ -140,6 +142,29 @@ refusal_writes_nothing (refusals.Document fault size) e = cc
 refusal_writes_nothing (refusals.Policy fault) e = cc
 refusal_writes_nothing (refusals.Data name at) e = cc
 refusal_writes_nothing (refusals.Item item code) e = cc
+
+refusal_not_done : (refusal : Refusal) → (ended_by_refusal refusal).status ≡ Done → ⊥
+refusal_not_done (refusals.Document fault size) e = cc
+refusal_not_done (refusals.Policy fault) e = cc
+refusal_not_done (refusals.Data name at) e = cc
+refusal_not_done (refusals.Item item code) e = cc
+
+-- what was computed from the files is judged
+pub judged_by : (words : List (List ℕ)) (files : List Held) (result : Result Answer Stop) → IsCommand words → AreFor (wants_of (asked_by words)) files → IsComputed (asked_by words) files result → IsJudged words result
+judged_by words files (Ok answer) command read computed = command
+judged_by words files (Err (stops.Words index)) command read computed = absurd computed.computed
+judged_by words files (Err (stops.File name fault)) command read computed = command
+judged_by words files (Err (stops.Refusal refusal)) command read computed = (
+  command,
+  record {
+    files = files;
+    read = read;
+    outcome = computed.outcome;
+    comes = computed.comes;
+    refuses = computed.computed;
+  },
+)
+judged_by words files (Err stops.OutOfMemory) command read computed = tt
 
 -- a run that stops
 pub stopped : (words : List (List ℕ)) (shelf shelf_now : ShelfState) (out : SinkState) (stop : Stop) → IsJudged words (Err stop)
@@ -224,7 +249,7 @@ stopped words shelf shelf_now out (stops.Refusal refusal) judged told cause asks
     } in record {
       by_words = subst (IsByWords words) stage judged.0;
       told = λ files e fits. subst (IsRight (asked_by words) files (ended_by_refusal refusal).status out.given out.given) stage (carried files e);
-      done = λ files e fits. carried_done (asked_by words) files (ended_by_refusal refusal).status out.given out.given (carried files e);
+      done = λ files e fits ends. absurd (refusal_not_done refusal ends);
       cause = subst (HasCause (wants_of (asked_by words)) shelf.counts shelf_now.counts) stage tt;
       write = λ e. absurd (refusal_writes_nothing refusal e);
       complete = λ files e fits fine sound all whole. inr (carried files e, refusal_writes_nothing refusal);
@@ -250,3 +275,29 @@ sized asked shelf (stops.File name faults.NoSuch) right = tt
 sized asked shelf (stops.File name faults.Failed) right = tt
 sized asked shelf (stops.File name (faults.TooLong got)) right = tt
 sized asked shelf stops.OutOfMemory right = tt
+
+-- what was computed of the files of a shelf
+pub judged_right : (asked : Asked) (shelf : Files) (files : List Held) (result : Result Answer Stop) → AreHeld shelf (wants_of asked) files → IsComputed asked files result → IsJudgedRight asked shelf result
+judged_right asked shelf files (Ok answer) held computed = record {
+  files = files;
+  held = held;
+  outcome = computed.outcome;
+  comes = computed.comes;
+  gives = computed.computed;
+  says = computed.says;
+}
+judged_right asked shelf files (Err (stops.Words index)) held computed = tt
+judged_right asked shelf files (Err (stops.File name fault)) held computed = absurd computed.computed
+judged_right asked shelf files (Err (stops.Refusal refusal)) held computed = record {
+  files = files;
+  held = held;
+  outcome = computed.outcome;
+  comes = computed.comes;
+  refuses = computed.computed;
+}
+judged_right asked shelf files (Err stops.OutOfMemory) held computed = tt
+
+-- a file that wasn't read
+pub unread_judged : (words : List (List ℕ)) (why : Unread) → IsCommand words → IsJudged words (Err (stop_unread why))
+unread_judged words (unread.File name fault) command = command
+unread_judged words unread.OutOfMemory command = tt

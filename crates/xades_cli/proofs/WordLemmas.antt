@@ -1,11 +1,19 @@
 -- The patterns of the commands can be fitted, and take few words.
-use Rattle.std.proofs.Common.{◌≡◌, refl, arith}
-use Rattle.std.specs.Prelude.{codes, true}
-use Rattle.std.specs.Str.{is_utf8, chars}
+use Rattle.std.proofs.Common.{◌≡◌, ℕ, ◌≤◌, Bool, true, false, drop, if◌then◌else◌, List, [], ◌∷◌, ◌++◌, length, Option, refl, sym, ap, ◌∙◌, inl, inr, arith}
+use Rattle.std.specs.Prelude.{codes}
+use Rattle.std.specs.Str.{bytes_eq, is_utf8, chars}
 use Rattle.std.specs.Char.{encode_utf8}
 use Rattle.word_patterns.specs.TextForms.{are_prefixes}
+use Rattle.std.proofs.lemmas.Slice.Eq.{bytes_eq-Decides}
+use Rattle.document_model.specs.Canonical.{Form}
+use Rattle.document_model.specs.Characters.{◌is◌}
 use Rattle.word_patterns.specs.Good.{AllGood, AreFew}
-use Rattle.xades_cli.specs.Words.{patterns}
+use Rattle.word_patterns.specs.Grammar.{Fits, IsPart, Part, Plain, once}
+use Rattle.xades_cli.specs.Asked.{AskedCanon, AskedOctets, AskedPrepare, AskedAttach, IsSound, asked_by, goes_by}
+use Rattle.xades_cli.specs.Attaching.{attaches_by}
+use Rattle.xades_cli.specs.Preparing.{IsPreparable, prepares_by}
+use Rattle.xades_cli.specs.Words.{IsCommand, attach_words, exclusive_words, inclusive_words, patterns, prepare_words, signature_words}
+use Rattle.xades_cli.proofs.MakerLemmas.{attach_good, prepare_good, sound_attachment, sound_preparation}
 
 default_is_prefix : are_prefixes (codes "#default") ≡ true
 unfolding is_utf8 chars encode_utf8
@@ -46,10 +54,70 @@ all_good = (
           (record { example = codes "for=signature"; is_example = refl; ordered = omega arith }, (record { example = codes "ext=a"; is_example = refl; ordered = omega arith }, tt)),
         ),
       ),
-      tt,
+      (prepare_good, (attach_good, tt)),
     ),
   ),
 )
 
 pub all_few : AreFew 1 patterns
-all_few = (omega arith, (omega arith, (omega arith, tt)))
+all_few = (omega arith, (omega arith, (omega arith, (omega arith, (omega arith, tt)))))
+
+-- Words that fit a pattern whose first part is one word go by that word's text.
+
+one_word : (text name : List ℕ) (own others words : List (List ℕ)) → IsPart (once (Plain text)) own → words ≡ own ++ others → goes_by name words ≡ (text is name)
+one_word text name [] others words part whole = absurd (omega (arith, part.enough))
+one_word text name (word ∷ []) others words part whole =
+    let same : word ≡ text = (bytes_eq-Decides word text).0 (of_form (bytes_eq word text) part.each.0) in
+    ap (goes_by name) whole ∙ ap (λ w. w is name) same
+  where
+    of_form : (b : Bool) → (if b then true else false) ≡ true → b ≡ true
+    of_form true e = refl
+    of_form false e = e
+one_word text name (word ∷ second ∷ own) others words part whole = absurd (omega (arith, part.few))
+
+first_word : (text name : List ℕ) (parts : List Part) (words : List (List ℕ)) → Fits (once (Plain text) ∷ parts) words → goes_by name words ≡ (text is name)
+first_word text name parts words fits = one_word text name fits.own fits.others words fits.is_part fits.whole
+
+abbrev behind : List Part → List Part
+behind [] = []
+behind (part ∷ parts) = parts
+
+-- the words of another command don't go by a name
+not_by : (text name : List ℕ) (parts : List Part) (words : List (List ℕ)) → (text is name) ≡ false → goes_by name words ≡ true → Fits (once (Plain text) ∷ parts) words → ⊥
+not_by text name parts words differs goes fits = let e : true ≡ false = sym goes ∙ first_word text name parts words fits ∙ differs in cc
+
+-- the words of `prepare`
+prepare_fits : (words : List (List ℕ)) → IsCommand words → goes_by (codes "prepare") words ≡ true → Fits prepare_words words
+prepare_fits words command goes = elim command [
+  | inl fits ↦ absurd (not_by (codes "canon") (codes "prepare") (behind exclusive_words) words refl goes fits)
+  | inr (inl fits) ↦ absurd (not_by (codes "canon") (codes "prepare") (behind inclusive_words) words refl goes fits)
+  | inr (inr (inl fits)) ↦ absurd (not_by (codes "octets") (codes "prepare") (behind signature_words) words refl goes fits)
+  | inr (inr (inr (inl fits))) ↦ fits
+  | inr (inr (inr (inr (inl fits)))) ↦ absurd (not_by (codes "attach") (codes "prepare") (behind attach_words) words refl goes fits)
+  | inr (inr (inr (inr (inr none)))) ↦ absurd none
+]
+
+-- the words of `attach`
+attach_fits : (words : List (List ℕ)) → IsCommand words → goes_by (codes "attach") words ≡ true → Fits attach_words words
+attach_fits words command goes = elim command [
+  | inl fits ↦ absurd (not_by (codes "canon") (codes "attach") (behind exclusive_words) words refl goes fits)
+  | inr (inl fits) ↦ absurd (not_by (codes "canon") (codes "attach") (behind inclusive_words) words refl goes fits)
+  | inr (inr (inl fits)) ↦ absurd (not_by (codes "octets") (codes "attach") (behind signature_words) words refl goes fits)
+  | inr (inr (inr (inl fits))) ↦ absurd (not_by (codes "prepare") (codes "attach") (behind prepare_words) words refl goes fits)
+  | inr (inr (inr (inr (inl fits)))) ↦ fits
+  | inr (inr (inr (inr (inr none)))) ↦ absurd none
+]
+
+sound_by : (octets prepare attach : Bool) (words : List (List ℕ)) → (prepare ≡ true → IsPreparable (prepares_by words)) → (attach ≡ true → length (attaches_by words).items ≤ 64)
+    → (document : List ℕ) (externals : List (List ℕ)) (form : Form) (id : Option (List ℕ))
+    → IsSound (if octets then AskedOctets document externals else if prepare then AskedPrepare (prepares_by words) else if attach then AskedAttach (attaches_by words) else AskedCanon document form id)
+sound_by true prepare attach words sound few document externals form id = tt
+sound_by false true attach words sound few document externals form id = sound refl
+sound_by false false true words sound few document externals form id = few refl
+sound_by false false false words sound few document externals form id = tt
+
+-- what words of a command say of what they ask
+pub sound_words : (words : List (List ℕ)) → IsCommand words → IsSound (asked_by words)
+sound_words words command =
+    sound_by (goes_by (codes "octets") words) (goes_by (codes "prepare") words) (goes_by (codes "attach") words) words
+    (λ goes. sound_preparation words (prepare_fits words command goes)) (λ goes. (sound_attachment words (attach_fits words command goes)).few) _ _ _ _

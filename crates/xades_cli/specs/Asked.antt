@@ -1,5 +1,5 @@
 -- What the words of a command ask.
-use Rattle.std.specs.Prelude.{ℕ, List, [], ◌∷◌, Bool, false, map, codes, Option, None, Some, if◌then◌else◌}
+use Rattle.std.specs.Prelude.{ℕ, ◌≤◌, length, List, [], ◌∷◌, Bool, false, map, codes, Option, None, Some, if◌then◌else◌}
 use Rattle.std.specs.Borrow.{Bor}
 use Rattle.std.specs.Str.{chars}
 use Rattle.document_model.specs.Characters.{◌is◌}
@@ -7,8 +7,10 @@ use Rattle.document_model.specs.Canonical.{Form, Inclusive, Exclusive}
 use Rattle.document_model.specs.Methods.{words_at, prefix_named}
 use Rattle.word_patterns.specs.Grammar.{text_behind, texts_behind, text_now}
 use Rattle.word_patterns.specs.TextForms.{is_comma}
+use Rattle.xades_cli.specs.Attaching.{Attaches, attaches_by, attaches_of}
+use Rattle.xades_cli.specs.Preparing.{IsPreparable, Prepares, prepares_by, prepares_of}
 use Rattle.xades_cli.specs.declared.words.Command.{Command}
-use Rattle.xades_cli.specs.declared.words.Command.TheVariants.{Canon, Octets}
+use Rattle.xades_cli.specs.declared.words.Command.TheVariants.{Canon, Octets, Prepare, Attach}
 use Rattle.xades_cli.specs.declared.words.Method.{Method}
 
 -- what a command asks
@@ -17,6 +19,10 @@ pub data Asked : Type 0 where
   AskedCanon : (document : List ℕ) (form : Form) (id : Option (List ℕ)) → Asked
   -- the octets that the signature of a document signs, with the names of files that are handed in
   AskedOctets : (document : List ℕ) (externals : List (List ℕ)) → Asked
+  -- the document with an unsigned signature
+  AskedPrepare : (prepares : Prepares) → Asked
+  -- the document with items attached
+  AskedAttach : (attaches : Attaches) → Asked
 
 -- a text, where there is one
 abbrev pub if_any : List ℕ → Option (List ℕ)
@@ -44,6 +50,8 @@ abbrev pub asked_by : List (List ℕ) → Asked
 asked_by words =
     if goes_by (codes "octets") words
     then AskedOctets (text_behind (codes "doc=") words) (texts_behind (codes "ext=") words)
+    else if goes_by (codes "prepare") words then AskedPrepare (prepares_by words)
+    else if goes_by (codes "attach") words then AskedAttach (attaches_by words)
     else AskedCanon (text_behind (codes "doc=") words) (form_asked words) (if_any (text_behind (codes "id=") words))
 
 -- the form that a method in memory names
@@ -58,3 +66,12 @@ option_now (Some text) = Some text.now
 abbrev pub asked_of : Command → Asked
 asked_of (Canon document method id) = AskedCanon document.now (form_of method) (option_now id)
 asked_of (Octets document externals) = AskedOctets document.now (map text_now externals.items)
+asked_of (Prepare preparation) = AskedPrepare (prepares_of preparation)
+asked_of (Attach attachment) = AskedAttach (attaches_of attachment)
+
+-- what words that fit say of what they ask
+abbrev pub IsSound : Asked → Type 0
+IsSound (AskedCanon document form id) = Unit {0}
+IsSound (AskedOctets document externals) = Unit {0}
+IsSound (AskedPrepare prepares) = IsPreparable prepares
+IsSound (AskedAttach attaches) = length attaches.items ≤ 64

@@ -1,33 +1,17 @@
--- The words of `attach`, what they ask, and the files that it wants.
+-- What the words of `attach` ask, and the files that it wants.
 use Rattle.std.specs.Prelude.{◌≡◌, ℕ, ◌≤◌, length, Some, List, [], ◌∷◌, ◌++◌, map, codes, unwrap_or, ℤ, pos}
 use Rattle.utc_times.specs.TimeText.{time_of}
 use Rattle.whole_files.specs.Wants.{Want}
 use Rattle.whole_files.specs.declared.role.Role.{Role}
-use Rattle.whole_files.specs.declared.role.Role.TheVariants.{Value, Stamp, Data, Archive}
-use Rattle.word_patterns.specs.Grammar.{Plain, Keyed, Part, once, text_behind, texts_behind, text_now}
+use Rattle.whole_files.specs.declared.role.Role.TheVariants.{Value}
+use Rattle.word_patterns.specs.Grammar.{text_behind, texts_behind, text_now}
 use Rattle.word_patterns.specs.Keyed.{keyed_texts, keyed_now}
-use Rattle.word_patterns.specs.TextForms.{is_time}
-use Rattle.xades_cli.specs.Commands.{document_want, policy_want, external_want}
-use Rattle.xades_cli.specs.Words.{file_word, external_words}
+use Rattle.xades_cli.specs.Wanting.{document_want, policy_want, external_want}
 use Rattle.xades_cli.specs.declared.attaching.Attachment.{Attachment}
 
 -- the keys of items, and what their files are for
 abbrev pub item_keys : List (List ℕ × Role)
-item_keys = (codes "value=", Value) ∷ (codes "stamp=", Stamp) ∷ (codes "data=", Data) ∷ (codes "archive=", Archive) ∷ []
-
--- one to sixty-four items
-abbrev pub item_words : Part
-item_words = record {
-  forms = file_word (codes "value=") ∷ file_word (codes "stamp=") ∷ file_word (codes "data=") ∷ file_word (codes "archive=") ∷ [];
-  least = 1;
-  most = 64;
-}
-
--- attach doc=FILE policy=FILE at=T, one to sixty-four of value=FILE, stamp=FILE, data=FILE and archive=FILE, and up to sixteen ext=NAME
-abbrev pub attach_words : List Part
-attach_words =
-    once (Plain (codes "attach")) ∷ once (file_word (codes "doc=")) ∷ once (file_word (codes "policy=")) ∷ once (Keyed (codes "at=") is_time)
-    ∷ item_words ∷ external_words ∷ []
+item_keys = (codes "value=", Value) ∷ []
 
 -- what is asked: the files of the document, the policy and the items, the moment in seconds since 1970, and the files that are handed in
 pub record Attaches : Type 0 where

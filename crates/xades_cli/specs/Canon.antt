@@ -6,7 +6,7 @@ use Rattle.document_model.specs.Documents.{fault, document_of}
 use Rattle.document_model.specs.Tree.{Nodes}
 use Rattle.document_model.specs.NodeSets.{Target, Missing, Single, Double, target_of, whole, subtree}
 use Rattle.document_model.specs.Canonical.{Form, octets_of}
-use Rattle.xades_cli.specs.declared.code.Code.TheVariants.{TargetMissing, TargetTwice}
+use Rattle.signature_checks.specs.declared.codes.Code.TheVariants.{TargetMissing, TargetTwice}
 use Rattle.xades_cli.specs.Outcomes.{Outcome, Writes, RefusesDocument, RefusesItem}
 
 -- the canonical text of the element that an identifier names, where it names just one; a command that has no items refuses as item 0

@@ -5,7 +5,7 @@ use Rattle.whole_files.specs.Faults.{Counts, HasRisenFor, IsFirstFault, IsWanted
 use Rattle.whole_files.specs.Wants.{Want, Held, AreFor, AreHeld}
 use Rattle.word_patterns.specs.Grammar.{IsFaultyWord}
 use Rattle.xades_cli.specs.Asked.{Asked, asked_by}
-use Rattle.xades_cli.specs.Commands.{wants_of, ComesTo}
+use Rattle.xades_cli.specs.Commands.{wants_of, AnswerSays, ComesTo}
 use Rattle.xades_cli.specs.Outcomes.{Outcome, Gives, Refuses}
 use Rattle.xades_cli.specs.Words.{patterns, IsCommand}
 use Rattle.xades_cli.specs.declared.answers.Answer.{Answer}
@@ -36,6 +36,7 @@ pub record IsAnswered (asked : Asked) (shelf : Files) (answer : Answer) : Type 0
   pub outcome : Outcome
   pub comes : ComesTo asked files outcome
   pub gives : Gives outcome answer
+  pub says : AnswerSays asked files answer
 
 -- and what is refused
 pub record IsRefusedBy (asked : Asked) (shelf : Files) (refusal : Refusal) : Type 0 where

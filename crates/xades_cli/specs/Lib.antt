@@ -1,4 +1,6 @@
 pub mod Words
+pub mod Wanting
+pub mod Preparing
 pub mod Asked
 pub mod Outcomes
 pub mod Stops
@@ -6,10 +8,10 @@ pub mod Reading
 pub mod Handing
 pub mod Canon
 pub mod Signing
+pub mod Prepare
 pub mod Commands
-pub mod Preparing
 pub mod Attaching
-pub mod Makers
+pub mod Attach
 pub mod Runs
 pub mod Giving
 pub mod Judging

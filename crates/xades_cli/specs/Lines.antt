@@ -4,14 +4,13 @@ use Rattle.xa_io.specs.Shelf.{Files}
 use Rattle.xa_io.specs.Sink.{appended, GaveFirst}
 use Rattle.xa_io.specs.Causes.{Rose}
 use Rattle.whole_files.specs.Wants.{Held, AreHeld}
+use Rattle.signature_checks.specs.Codes.{code_number}
 use Rattle.policy_rules.specs.declared.fault.PolicyFault.{PolicyFault}
 use Rattle.policy_rules.specs.declared.fault.PolicyFault.TheVariants as policies
 use Rattle.xades_cli.specs.Asked.{Asked}
 use Rattle.xades_cli.specs.Commands.{wants_of, ComesTo}
 use Rattle.xades_cli.specs.Outcomes.{RefusesDocument}
 use Rattle.doc_spans.specs.Faults.{fault_number, fault_place}
-use Rattle.xades_cli.specs.declared.code.Code.{Code}
-use Rattle.xades_cli.specs.declared.code.Code.TheVariants as refusals
 use Rattle.xades_cli.specs.declared.status.Status.{Status}
 use Rattle.xades_cli.specs.declared.status.Status.TheVariants.{Done, No, BadWords, NoSuchFile, ReadFault, WriteFault, TooLong, BadDocument, BadPolicy, BadData, Refused, OutOfMemory}
 
@@ -48,22 +47,6 @@ policy_line policies.OutOfMemory = parts_line (codes "xades: policy fault ") (co
 -- the line for a file that isn't whole DER from a place on
 abbrev pub data_line : List ℕ → ℕ → List ℕ
 data_line name at = parts_line (codes "xades: data fault: ") name (codes " at ") (decimal at)
-
--- the number of a code
-abbrev pub code_number : Code → ℕ
-code_number refusals.NoSignature = 1
-code_number refusals.Several = 2
-code_number (refusals.Shape at what) = 3
-code_number (refusals.Include at) = 4
-code_number (refusals.PropertyData at) = 5
-code_number (refusals.TargetMissing k) = 6
-code_number (refusals.TargetTwice k) = 7
-code_number (refusals.Chain k) = 8
-code_number (refusals.DigestName k) = 9
-code_number (refusals.External k) = 10
-code_number (refusals.Base64 k at) = 11
-code_number (refusals.SelfCover k) = 12
-code_number refusals.AlreadySigned = 13
 
 -- the line for an item that is refused
 abbrev pub refusal_line : ℕ → ℕ → List ℕ

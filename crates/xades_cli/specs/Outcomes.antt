@@ -8,7 +8,7 @@ use Rattle.policy_rules.specs.declared.fault.PolicyFault.{PolicyFault}
 use Rattle.policy_rules.specs.declared.fault.PolicyFault.TheVariants as policies
 use Rattle.xades_cli.specs.declared.answers.Answer.{Answer}
 use Rattle.xades_cli.specs.declared.answers.Answer.TheVariants.{Text, Report}
-use Rattle.xades_cli.specs.declared.code.Code.{Code}
+use Rattle.signature_checks.specs.declared.codes.Code.{Code}
 use Rattle.xades_cli.specs.declared.stop.Refusal.{Refusal}
 use Rattle.xades_cli.specs.declared.stop.Refusal.TheVariants as refusals
 use Rattle.xades_cli.specs.declared.stop.Stop.{Stop}

@@ -1,4 +1,4 @@
--- The words of `prepare`, what they ask, and the files that it wants.
+-- What the words of `prepare` ask, and the files that it wants.
 use Rattle.std.specs.Prelude.{◌≡◌, ℕ, ◌≤◌, Bool, true, All, length, List, [], ◌∷◌, ◌++◌, map, filter, codes, if◌then◌else◌}
 use Rattle.std.specs.Str.{chars}
 use Rattle.algorithms.specs.declared.digest_kinds.DigestKind.{DigestKind}
@@ -6,28 +6,10 @@ use Rattle.algorithms.specs.declared.digest_kinds.DigestKind.TheVariants.{Sha256
 use Rattle.document_model.specs.Characters.{◌is◌}
 use Rattle.signature_model.specs.Chains.{is_external, place_named}
 use Rattle.whole_files.specs.Wants.{Want}
-use Rattle.whole_files.specs.declared.role.Role.TheVariants.{Certificate}
-use Rattle.word_patterns.specs.Grammar.{WordForm, Plain, Keyed, Part, once, text_behind, texts_behind, text_now}
+use Rattle.word_patterns.specs.Grammar.{text_behind, texts_behind, text_now}
 use Rattle.word_patterns.specs.TextForms.{is_time, is_signature_id, is_some_uri, is_uri}
-use Rattle.xades_cli.specs.Commands.{document_want, policy_want, external_want}
-use Rattle.xades_cli.specs.Words.{file_word}
+use Rattle.xades_cli.specs.Wanting.{document_want, policy_want, certificate_want, external_want}
 use Rattle.xades_cli.specs.declared.preparing.Preparation.{Preparation}
-
--- digest=sha256, digest=sha384 or digest=sha512
-abbrev pub digest_word : Part
-digest_word = record {
-  forms = Plain (codes "digest=sha256") ∷ Plain (codes "digest=sha384") ∷ Plain (codes "digest=sha512") ∷ [];
-  least = 1;
-  most = 1;
-}
-
--- prepare doc=FILE policy=FILE, one to eight cert=FILE, time=T id=X method=URI digest=.., and one to fifteen ref=URI
-abbrev pub prepare_words : List Part
-prepare_words =
-    once (Plain (codes "prepare")) ∷ once (file_word (codes "doc=")) ∷ once (file_word (codes "policy="))
-    ∷ record { forms = file_word (codes "cert=") ∷ []; least = 1; most = 8 }
-    ∷ once (Keyed (codes "time=") is_time) ∷ once (Keyed (codes "id=") is_signature_id) ∷ once (Keyed (codes "method=") is_some_uri)
-    ∷ digest_word ∷ record { forms = Keyed (codes "ref=") is_uri ∷ []; least = 1; most = 15 } ∷ []
 
 -- what is asked: the files of the document, the policy and the certificates, the signing time, the identifier of the signature, the URI of
 -- its method, the kind of its digests, and the URIs of its References
@@ -84,9 +66,6 @@ pub record IsPreparable (asked : Prepares) : Type 0 where
   pub some_references : 1 ≤ length asked.references
   pub few_references : length asked.references ≤ 15
   pub references : All (λ uri. is_uri uri ≡ true) asked.references
-
-abbrev pub certificate_want : List ℕ → Want
-certificate_want name = record { role = Certificate; name = name }
 
 -- the files that are wanted, in the order of the words: external References behind the certificates
 abbrev pub prepare_wants : Prepares → List Want

@@ -22,8 +22,8 @@ use Rattle.signature_shape.specs.declared.what.What.TheVariants as what
 use Rattle.whole_files.specs.Roles.{is_external}
 use Rattle.whole_files.specs.Wants.{Held}
 use Rattle.xades_cli.specs.Outcomes.{Outcome, Writes, RefusesDocument, RefusesItem}
-use Rattle.xades_cli.specs.declared.code.Code.{Code}
-use Rattle.xades_cli.specs.declared.code.Code.TheVariants as refusals
+use Rattle.signature_checks.specs.declared.codes.Code.{Code}
+use Rattle.signature_checks.specs.declared.codes.Code.TheVariants as refusals
 
 -- the octets of the first file with a name, of those that are handed in for References
 abbrev pub handed_by : List Held → Handed

@@ -1,7 +1,7 @@
 -- The words of the program's commands.
 use Rattle.std.specs.Prelude.{ℕ, List, [], ◌∷◌, codes}
 use Rattle.word_patterns.specs.Grammar.{WordForm, Plain, Keyed, Part, once, FitsOne, IsFaultyWord}
-use Rattle.word_patterns.specs.TextForms.{is_file_name, are_prefixes, is_some_text}
+use Rattle.word_patterns.specs.TextForms.{is_file_name, are_prefixes, is_some_text, is_time, is_signature_id, is_some_uri, is_uri}
 use Rattle.xades_cli.specs.declared.stop.Stop.{Stop}
 use Rattle.xades_cli.specs.declared.stop.Stop.TheVariants as stops
 
@@ -40,9 +40,34 @@ abbrev pub signature_words : List Part
 signature_words =
     once (Plain (codes "octets")) ∷ once (file_word (codes "doc=")) ∷ once (Plain (codes "for=signature")) ∷ external_words ∷ []
 
+-- digest=sha256, digest=sha384 or digest=sha512
+abbrev pub digest_word : Part
+digest_word = record {
+  forms = Plain (codes "digest=sha256") ∷ Plain (codes "digest=sha384") ∷ Plain (codes "digest=sha512") ∷ [];
+  least = 1;
+  most = 1;
+}
+
+-- prepare doc=FILE policy=FILE, one to eight cert=FILE, time=T id=X method=URI digest=.., and one to fifteen ref=URI
+abbrev pub prepare_words : List Part
+prepare_words =
+    once (Plain (codes "prepare")) ∷ once (file_word (codes "doc=")) ∷ once (file_word (codes "policy="))
+    ∷ record { forms = file_word (codes "cert=") ∷ []; least = 1; most = 8 }
+    ∷ once (Keyed (codes "time=") is_time) ∷ once (Keyed (codes "id=") is_signature_id) ∷ once (Keyed (codes "method=") is_some_uri)
+    ∷ digest_word ∷ record { forms = Keyed (codes "ref=") is_uri ∷ []; least = 1; most = 15 } ∷ []
+
+-- attach doc=FILE policy=FILE at=T, one to sixty-four value=FILE, and up to sixteen ext=NAME
+abbrev pub item_words : Part
+item_words = record { forms = file_word (codes "value=") ∷ []; least = 1; most = 64 }
+
+abbrev pub attach_words : List Part
+attach_words =
+    once (Plain (codes "attach")) ∷ once (file_word (codes "doc=")) ∷ once (file_word (codes "policy=")) ∷ once (Keyed (codes "at=") is_time)
+    ∷ item_words ∷ external_words ∷ []
+
 -- the words of each command
 abbrev pub patterns : List (List Part)
-patterns = exclusive_words ∷ inclusive_words ∷ signature_words ∷ []
+patterns = exclusive_words ∷ inclusive_words ∷ signature_words ∷ prepare_words ∷ attach_words ∷ []
 
 -- the words are those of a command
 abbrev pub IsCommand : List (List ℕ) → Type 0

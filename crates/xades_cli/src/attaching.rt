@@ -4,10 +4,11 @@ ghost use Rattle.utc_times.specs.TimeText.{time_of};
 ghost use Rattle.whole_files.specs.Wants.{want_of};
 ghost use Rattle.word_patterns.specs.Grammar.{Fits, text_now};
 ghost use Rattle.word_patterns.specs.Keyed.{keyed_now};
-ghost use Rattle.xades_cli.specs.Attaching.{IsAttachable, attach_wants, attach_words, attaches_by, attaches_of, item_want};
+ghost use Rattle.xades_cli.specs.Attaching.{IsAttachable, attach_wants, attaches_by, attaches_of, item_want};
+ghost use Rattle.xades_cli.specs.Words.{attach_words};
 
-use crate::commands::{want, want_externals};
-use crate::words::{DOCUMENT, EXTERNALS, POLICY};
+use crate::parts::{DOCUMENT, EXTERNALS, POLICY};
+use crate::wants::{want, want_externals};
 use std::alloc::Global;
 use utc_times::read_time;
 use whole_files::{Role, Wanted};
@@ -42,12 +43,7 @@ const MOMENT: Part<'static> = Part {
 };
 
 const ITEMS: Part<'static> = Part {
-    forms: &[
-        WordForm::Keyed("value=", TextForm::FileName),
-        WordForm::Keyed("stamp=", TextForm::FileName),
-        WordForm::Keyed("data=", TextForm::FileName),
-        WordForm::Keyed("archive=", TextForm::FileName),
-    ],
+    forms: &[WordForm::Keyed("value=", TextForm::FileName)],
     least: 1,
     most: 64,
 };
@@ -56,12 +52,7 @@ pub(crate) const ATTACH_WORDS: &[Part<'static>] = &[
     ATTACH, DOCUMENT, POLICY, MOMENT, ITEMS, EXTERNALS,
 ];
 
-const ITEM_KEYS: &[(&str, Role)] = &[
-    ("value=", Role::Value),
-    ("stamp=", Role::Stamp),
-    ("data=", Role::Data),
-    ("archive=", Role::Archive),
-];
+const ITEM_KEYS: &[(&str, Role)] = &[("value=", Role::Value)];
 
 // The seconds since 1970 of a time; 0 where the text is no time.
 fn seconds_of(text: &str) -> i64

@@ -9,10 +9,10 @@ ghost use Rattle.node_sets.specs.Sets.{set_in, doc_in};
 ghost use Rattle.xades_cli.specs.Outcomes.{IsOf, Writes};
 
 use crate::answers::Answer;
-use crate::code::Code;
 use crate::documents::read_document;
 use crate::stop::{Stop, refuse};
 use crate::words::Method;
+use augmenter::Code;
 use canon_forms::{Form, Prefixes, to_vec};
 use doc_spans::Doc;
 use node_sets::{IdAnswer, NodeSet, find_id};

@@ -1,63 +1,63 @@
 // What a command comes to by its files.
-ghost use Rattle.std.specs.Prelude.{◌≡◌, ◌++◌, ◌∷◌, [], List, map, IfOk, OnOk};
+ghost use Rattle.std.specs.Prelude.{◌≡◌, ◌∷◌, [], List, map, IfOk};
 ghost use Rattle.whole_files.specs.Wants.{Held, want_of, held_of, AreFor};
 ghost use Rattle.word_patterns.specs.Grammar.{text_now};
-ghost use Rattle.xades_cli.specs.Asked.{Asked, asked_of};
-ghost use Rattle.xades_cli.specs.Commands.{external_want, wants_of, ComesTo, IsComputed};
+ghost use Rattle.xades_cli.specs.Asked.{Asked, IsSound, asked_of};
+ghost use Rattle.xades_cli.specs.Commands.{wants_of, ComesTo, IsComputed};
 ghost use Rattle.xades_cli.specs.Outcomes.{Outcome};
+ghost use Rattle.xades_cli.specs.Wanting.{document_want, external_want};
 
 use crate::answers::Answer;
+use crate::attach::attach_items;
+use crate::attaching::files_to_attach;
 use crate::canon::canonicalize;
 use crate::handing::hand_in;
 use crate::octets::octets_to_sign;
+use crate::prepare::prepare_document;
+use crate::preparing::files_to_prepare;
 use crate::stop::Stop;
+use crate::wants::{want, want_externals};
 use crate::words::Command;
 use std::alloc::Global;
 use whole_files::{File, Role, Wanted, document_of};
 use xa_io::OutOfMemory;
 
-pub(crate) fn want<'a>(
-    wanted: &mut Vec<Wanted<'a>>,
-    role: Role,
-    name: &'a str,
-) -> Result<(), OutOfMemory>
-    ensures { OnOk result (map want_of wanted.new.items ≡ map want_of wanted.old.items ++ record { role = role; name = name.now } ∷ []) }
+// The document alone.
+fn document_alone<'a>(alloc: Global, document: &'a str) -> Result<Vec<Wanted<'a>>, OutOfMemory>
+    ensures { IfOk result (λ wanted. map want_of wanted.items ≡ document_want document.now ∷ []) }
 {
-    match wanted.push(Wanted { role, name }) {
-        Ok(()) => Ok(()),
-        Err(_) => Err(OutOfMemory),
-    }
+    let mut wanted = Vec::new(alloc);
+    want(&mut wanted, Role::Document, document)?;
+    Ok(wanted)
 }
 
-// The files that are handed in for References.
-pub(crate) fn want_externals<'a>(
-    wanted: &mut Vec<Wanted<'a>>,
-    names: &[&'a str],
-) -> Result<(), OutOfMemory>
-    ensures { OnOk result (map want_of wanted.new.items ≡ map want_of wanted.old.items ++ map external_want (map text_now names.now)) }
+// The document, and the files that are handed in.
+fn document_and_externals<'a>(
+    alloc: Global,
+    document: &'a str,
+    externals: &[&'a str],
+) -> Result<Vec<Wanted<'a>>, OutOfMemory>
+    ensures { IfOk result (λ wanted. map want_of wanted.items ≡ document_want document.now ∷ map external_want (map text_now externals.now)) }
 {
-    for name in names {
-        want(wanted, Role::External, *name)?;
-    }
-    Ok(())
+    let mut wanted = Vec::new(alloc);
+    want(&mut wanted, Role::Document, document)?;
+    want_externals(&mut wanted, externals)?;
+    Ok(wanted)
 }
 
 /// The files that a command wants, in the order of its words.
 pub fn wanted_by<'a>(alloc: Global, command: &Command<'a>) -> Result<Vec<Wanted<'a>>, OutOfMemory>
     ensures { IfOk result (λ wanted. map want_of wanted.items ≡ wants_of (asked_of command.now)) }
 {
-    let mut wanted = Vec::new(alloc);
     match command {
-        Command::Canon { document, .. } => want(&mut wanted, Role::Document, *document)?,
+        Command::Canon { document, .. } => document_alone(alloc, *document),
         Command::Octets {
             document,
             externals,
-        } => {
-            want(&mut wanted, Role::Document, *document)?;
-            want_externals(&mut wanted, externals.as_slice())?;
-        }
+        } => document_and_externals(alloc, *document, externals.as_slice()),
+        Command::Prepare(preparation) => files_to_prepare(alloc, preparation),
+        Command::Attach(attachment) => files_to_attach(alloc, attachment),
     }
-    Ok(wanted)
 }
 
 /// What a command comes to by its files, one for each that it wants.
@@ -66,7 +66,8 @@ pub fn compute(
     command: &Command<'_>,
     mut files: Vec<File<'_>>,
 ) -> Result<Answer, Stop>
-    requires { AreFor (wants_of (asked_of command.now)) (map held_of files.items) }
+    requires sound { IsSound (asked_of command.now) }
+    requires read { AreFor (wants_of (asked_of command.now)) (map held_of files.items) }
     ensures { IsComputed (asked_of command.now) (map held_of files.entry.items) result }
 {
     match command {
@@ -78,6 +79,8 @@ pub fn compute(
             let externals = hand_in(alloc, files)?;
             octets_to_sign(alloc, document.bytes.as_slice(), &externals)
         }
+        Command::Prepare(preparation) => prepare_document(alloc, preparation, files),
+        Command::Attach(attachment) => attach_items(alloc, attachment, files),
     }
 }
 

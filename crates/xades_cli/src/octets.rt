@@ -19,9 +19,9 @@ ghost use Rattle.xades_cli.specs.Signing.{by_answer, octets_outcome, signature_o
 
 use crate::answers::Answer;
 use crate::canon::write_set;
-use crate::code::Code;
 use crate::documents::read_document;
 use crate::stop::{Stop, refuse};
+use augmenter::Code;
 use canon_forms::{Form, read_form};
 use doc_spans::{Doc, NodeId};
 use node_sets::NodeSet;

@@ -2,11 +2,12 @@
 ghost use Rattle.std.specs.Prelude.{◌≡◌, ◌++◌, ◌∷◌, [], ℕ, List, map, filter, string_bytes, IfOk, OnOk};
 ghost use Rattle.whole_files.specs.Wants.{want_of};
 ghost use Rattle.word_patterns.specs.Grammar.{Fits, text_now};
-ghost use Rattle.xades_cli.specs.Commands.{external_want};
-ghost use Rattle.xades_cli.specs.Preparing.{IsPreparable, certificate_want, digest_named, names_file, prepare_wants, prepare_words, prepares_by, prepares_of};
+ghost use Rattle.xades_cli.specs.Preparing.{IsPreparable, digest_named, names_file, prepare_wants, prepares_by, prepares_of};
+ghost use Rattle.xades_cli.specs.Wanting.{certificate_want, external_want};
+ghost use Rattle.xades_cli.specs.Words.{prepare_words};
 
-use crate::commands::want;
-use crate::words::{DOCUMENT, POLICY};
+use crate::parts::{DOCUMENT, POLICY};
+use crate::wants::want;
 use algorithms::DigestKind;
 use std::alloc::Global;
 use whole_files::{Role, Wanted};

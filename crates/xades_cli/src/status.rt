@@ -2,8 +2,8 @@
 ghost use Rattle.std.specs.Prelude.{◌≡◌};
 ghost use Rattle.xades_cli.specs.Stops.{ended_by, ended_by_refusal};
 
-use crate::code::Code;
 use crate::stop::{Refusal, Stop};
+use augmenter::Code;
 use doc_spans::DocFault;
 use policy_rules::PolicyFault;
 use whole_files::FileFault;

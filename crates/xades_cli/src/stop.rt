@@ -1,7 +1,7 @@
 // Why a command stops before it gives anything out.
 ghost use Rattle.std.specs.Prelude.{◌≡◌};
 
-use crate::code::Code;
+use augmenter::Code;
 use doc_spans::DocFault;
 use policy_rules::PolicyFault;
 use whole_files::{FileFault, Unread};

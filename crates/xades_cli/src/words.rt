@@ -1,9 +1,12 @@
 // The words of the command line.
 ghost use Rattle.std.specs.Prelude.{◌≡◌, List, map, string_bytes, IfOk, MatchOption, MatchResult};
 ghost use Rattle.word_patterns.specs.Grammar.{IsFaultyWord};
-ghost use Rattle.xades_cli.specs.Asked.{asked_by, asked_of, form_of, form_asked, goes_by, if_any, option_now};
+ghost use Rattle.xades_cli.specs.Asked.{IsSound, asked_by, asked_of, form_of, form_asked, goes_by, if_any, option_now};
 ghost use Rattle.xades_cli.specs.Words.{patterns, IsCommand, IsWordFault};
 
+use crate::attaching::{ATTACH_WORDS, Attachment, attachment_by};
+use crate::parts::{DOCUMENT, EXTERNALS};
+use crate::preparing::{PREPARE_WORDS, Preparation, preparation_by};
 use crate::stop::Stop;
 use std::alloc::Global;
 use word_patterns::{Part, TextForm, WordForm, faulty_word, text_behind, texts_behind};
@@ -34,16 +37,14 @@ pub enum Command<'a> {
         document: &'a str,
         externals: Vec<&'a str>,
     },
+    /// Write a document with an unsigned signature.
+    Prepare(Preparation<'a>),
+    /// Write a document with items attached.
+    Attach(Attachment<'a>),
 }
 
 const CANON: Part<'static> = Part {
     forms: &[WordForm::Plain("canon")],
-    least: 1,
-    most: 1,
-};
-
-pub(crate) const DOCUMENT: Part<'static> = Part {
-    forms: &[WordForm::Keyed("doc=", TextForm::FileName)],
     least: 1,
     most: 1,
 };
@@ -93,18 +94,6 @@ const FOR_SIGNATURE: Part<'static> = Part {
     most: 1,
 };
 
-pub(crate) const POLICY: Part<'static> = Part {
-    forms: &[WordForm::Keyed("policy=", TextForm::FileName)],
-    least: 1,
-    most: 1,
-};
-
-pub(crate) const EXTERNALS: Part<'static> = Part {
-    forms: &[WordForm::Keyed("ext=", TextForm::FileName)],
-    least: 0,
-    most: 16,
-};
-
 const EXCLUSIVE_WORDS: &[Part<'static>] = &[CANON, DOCUMENT, EXCLUSIVE, COMMENTS, PREFIXES, ID];
 
 const INCLUSIVE_WORDS: &[Part<'static>] = &[CANON, DOCUMENT, INCLUSIVE, COMMENTS, ID];
@@ -117,7 +106,13 @@ fn faulty(alloc: Global, words: &[String]) -> Result<Option<u32>, OutOfMemory>
 {
     faulty_word(
         alloc,
-        &[EXCLUSIVE_WORDS, INCLUSIVE_WORDS, SIGNATURE_WORDS],
+        &[
+            EXCLUSIVE_WORDS,
+            INCLUSIVE_WORDS,
+            SIGNATURE_WORDS,
+            PREPARE_WORDS,
+            ATTACH_WORDS,
+        ],
         words,
     )
 }
@@ -161,6 +156,12 @@ fn command_of<'a>(alloc: Global, words: &'a [String]) -> Result<Command<'a>, Out
             externals: texts_behind(alloc, "ext=", words)?,
         });
     }
+    if goes_by("prepare", words) {
+        return Ok(Command::Prepare(preparation_by(alloc, words)?));
+    }
+    if goes_by("attach", words) {
+        return Ok(Command::Attach(attachment_by(alloc, words)?));
+    }
     Ok(Command::Canon {
         document,
         method: method_of(words),
@@ -171,7 +172,7 @@ fn command_of<'a>(alloc: Global, words: &'a [String]) -> Result<Command<'a>, Out
 /// The command that the words are; else why it stops: the first word, from 1, with which no command goes on.
 pub fn read_words<'a>(alloc: Global, words: &'a [String]) -> Result<Command<'a>, Stop>
     ensures { MatchResult result
-        (λ command. IsCommand (map string_bytes words.now) × (asked_by (map string_bytes words.now) ≡ asked_of command))
+        (λ command. IsCommand (map string_bytes words.now) × (asked_by (map string_bytes words.now) ≡ asked_of command) × IsSound (asked_of command))
         (IsWordFault (map string_bytes words.now)) }
 {
     match faulty(alloc, words)? {

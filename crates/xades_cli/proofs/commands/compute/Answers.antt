@@ -4,11 +4,13 @@ use Rattle.reference_chains.specs.HandedIn.{handed_in}
 use Rattle.whole_files.specs.Wants.{AreFor, held_of, document_of}
 use Rattle.word_patterns.specs.Grammar.{text_now}
 use Rattle.xades_cli.specs.Asked.{asked_of, form_of, option_now}
-use Rattle.xades_cli.specs.Commands.{document_want, external_want}
+use Rattle.xades_cli.specs.Wanting.{document_want, external_want}
 use Rattle.xades_cli.specs.Outcomes.{IsOf}
+use Rattle.xades_cli.specs.Attaching.{attaches_of}
+use Rattle.xades_cli.specs.Preparing.{prepares_of}
 use Rattle.xades_cli.specs.Signing.{octets_outcome}
 use Rattle.xades_cli.specs.declared.stop.Stop.TheVariants as stops
-use Rattle.xades_cli.proofs.CommandLemmas.{canon_computed, first_read, first_removed, memory_wanted, octets_computed, some_file}
+use Rattle.xades_cli.proofs.CommandLemmas.{canon_computed, first_read, first_removed, memory_wanted, octets_computed, attach_computed, prepare_computed, some_file}
 use Rattle.xades_cli.proofs.HandingLemmas.{handed_short}
 use Rattle.xades_cli.proofs.commands.compute.Goals as goal
 
@@ -24,7 +26,7 @@ returns-in-Canon c =
 
 pub returns-in_ok-externals-in-Octets : goal.returns-in_ok-externals-in-Octets
 returns-in_ok-externals-in-Octets c =
-    let read : AreFor (document_want c.in-Octets.document.now ∷ map external_want (map text_now c.in-Octets.externals.items)) (map held_of c.args.files.items) = rw c.in-Octets.is at c.requires in
+    let read : AreFor (document_want c.in-Octets.document.now ∷ map external_want (map text_now c.in-Octets.externals.items)) (map held_of c.args.files.items) = rw c.in-Octets.is at c.requires.read in
     let whole : c.args.files.items ≡ c.remove-document.result ∷ c.remove-document.new.self.items
     = rw c.remove-document.ensures.items (first_removed c.args.files.items c.remove-document.result (some_file (document_want c.in-Octets.document.now) (map external_want (map text_now c.in-Octets.externals.items)) c.args.files.items read) c.remove-document.ensures.value) in
     let held : map held_of c.args.files.items ≡ held_of c.remove-document.result ∷ map held_of c.remove-document.new.self.items = rw whole refl in
@@ -37,3 +39,13 @@ returns-in_ok-externals-in-Octets c =
 pub octets_to_sign-requires-clause-externals : goal.octets_to_sign-requires-clause-externals
 octets_to_sign-requires-clause-externals c =
     handed_short (handed_in c.in_ok-externals-in-Octets.externals) c.remove-document.new.self.items c.in_ok-externals-in-Octets.ensures
+
+pub returns-in-Prepare : goal.returns-in-Prepare
+returns-in-Prepare c =
+    rw c.in-Prepare.is
+    (prepare_computed (prepares_of c.in-Prepare.preparation) (map held_of c.args.files.items) c.prepare_document.result c.prepare_document.ensures.outcome c.prepare_document.ensures.says)
+
+pub returns-in-Attach : goal.returns-in-Attach
+returns-in-Attach c =
+    rw c.in-Attach.is
+    (attach_computed (attaches_of c.in-Attach.attachment) (map held_of c.args.files.items) c.attach_items.result c.attach_items.ensures.outcome c.attach_items.ensures.says)

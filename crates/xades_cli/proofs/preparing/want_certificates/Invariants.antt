@@ -1,7 +1,7 @@
 use Rattle.std.proofs.Common.{◌≡◌, ◌++◌, map, take}
 use Rattle.word_patterns.specs.Grammar.{text_now}
 use Rattle.whole_files.specs.Wants.{want_of}
-use Rattle.xades_cli.specs.Preparing.{certificate_want}
+use Rattle.xades_cli.specs.Wanting.{certificate_want}
 use Rattle.xades_cli.proofs.preparing.want_certificates.Given as goal
 
 abbrev pub invariant-loop-name : goal.invariant-loop-name

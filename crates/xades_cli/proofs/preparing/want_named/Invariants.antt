@@ -2,7 +2,7 @@ use Rattle.std.proofs.Common.{◌≡◌, ◌++◌, map, take}
 use Rattle.std.specs.Prelude.{filter}
 use Rattle.word_patterns.specs.Grammar.{text_now}
 use Rattle.whole_files.specs.Wants.{want_of}
-use Rattle.xades_cli.specs.Commands.{external_want}
+use Rattle.xades_cli.specs.Wanting.{external_want}
 use Rattle.xades_cli.specs.Preparing.{names_file}
 use Rattle.xades_cli.proofs.preparing.want_named.Given as goal
 
