@@ -4,6 +4,8 @@
 #[cfg(test)]
 mod attachments;
 #[cfg(test)]
+mod commands;
+#[cfg(test)]
 mod drafts;
 #[cfg(test)]
 mod refused;

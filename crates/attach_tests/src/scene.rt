@@ -45,8 +45,13 @@ pub(crate) struct Scene {
     value: Octs,
 }
 
+// The text of a policy that trusts one certificate.
+fn policy_text(alloc: Global, anchor: &str, tables: &str) -> Result<String, Fail> {
+    Ok(format!(in alloc; "version = 1\nanchors = [\"{anchor}\"]\n{tables}")?)
+}
+
 fn policy_of(alloc: Global, anchor: &str, tables: &str) -> Result<Policy, Fail> {
-    let text = format!(in alloc; "version = 1\nanchors = [\"{anchor}\"]\n{tables}")?;
+    let text = policy_text(alloc, anchor, tables)?;
     match read_policy(alloc, text.as_bytes()) {
         Ok(policy) => Ok(policy),
         Err(_) => Err(Fail::new("no policy")),
@@ -144,6 +149,11 @@ impl Scene {
     // The prepared document in which the first part that is the one text is the other.
     pub(crate) fn changed(&self, old: &str, new: &str) -> Result<Octs, Fail> {
         replaced(self.alloc, self.prepared(), old, new)
+    }
+
+    // The text of a policy that lists the method.
+    pub(crate) fn policy(&self) -> Result<String, Fail> {
+        policy_text(self.alloc, self.certificate.as_str(), LISTED)
     }
 
     // The prepared document with the value in base64 where it belongs.
