@@ -42,7 +42,7 @@ no_token : (k n : ℕ) (bytes : List ℕ) → has (octets_from k n ++ Value ∷ 
 no_token k zero bytes = refl
 no_token k (suc n) bytes = no_token (suc k) n bytes
 
-front_is : (n : ℕ) → with_objects [] (octets_from 1 n ++ Value ∷ []) ≡ octets_from 1 n ++ Value ∷ []
+pub front_is : (n : ℕ) → with_objects [] (octets_from 1 n ++ Value ∷ []) ≡ octets_from 1 n ++ Value ∷ []
 front_is n =
     with_both [] (octets_from 1 n) (Value ∷ []) ∙ ap (λ all. with_object all Value) (fresh [] 1 n (λ j. refl)) ∙ put_behind (octets_from 1 n) Value (no_value 1 n)
 

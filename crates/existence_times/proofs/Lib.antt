@@ -3,3 +3,4 @@ pub mod Reached
 pub mod CaseLaws
 pub mod TokenLaws
 pub mod CaseSteps
+pub mod Ordered

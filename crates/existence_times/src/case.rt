@@ -10,7 +10,7 @@ ghost use Rattle.cert_paths.specs.Pool.{seen, IsWhole};
 ghost use Rattle.existence_times.specs.Kept.{HasBytes, HasNumber, number_of, with_pool, with_token, with_stamp};
 ghost use Rattle.existence_times.specs.Shown.{HasToken, HasSignerOf, KeepsCase, AreEarliestOf};
 
-use crate::rounds::settle;
+use crate::asking::earliest_by;
 use crate::rows::{StampRow, TokenRow};
 use cert_paths::{Links, ObjectId, Pool, Times};
 use policy_rules::Policy;
@@ -236,15 +236,5 @@ pub fn earliest(alloc: Global, case: &Case, policy: &Policy, now: i64) -> Result
     ensures { IfOk result (λ times. AreEarliestOf (rules policy.now) case.now now times) }
 {
     let links = Links::new(alloc, &case.pool, policy)?;
-    let mut times = Times::flat(alloc, case.pool.objects(), now)?;
-    settle(
-        alloc,
-        &links,
-        policy,
-        case.tokens.as_slice(),
-        case.stamps.as_slice(),
-        now,
-        &mut times,
-    )?;
-    Ok(times)
+    earliest_by(alloc, &links, case, policy, now)
 }

@@ -30,8 +30,8 @@ fn is_met(times: &Times, covers: &[ObjectId], bound: i64) -> bool
     true
 }
 
-// Lowers the times of the covered objects to the bound.
-fn lower(times: &mut Times, covers: &[ObjectId], bound: i64)
+/// Lowers the times of the covered objects to the bound.
+pub(crate) fn lower(times: &mut Times, covers: &[ObjectId], bound: i64)
     requires { All (λ y. y < length times.old) (map number_of covers.now) }
     ensures lowered { times.new ≡ lowered bound (map number_of covers.now) times.old }
     ensures len { length times.new ≡ length times.old }
@@ -41,8 +41,8 @@ fn lower(times: &mut Times, covers: &[ObjectId], bound: i64)
     }
 }
 
-// The bytes of a token.
-fn bytes_of(tokens: &[TokenRow], number: usize) -> &[u8]
+/// The bytes of a token.
+pub(crate) fn bytes_of(tokens: &[TokenRow], number: usize) -> &[u8]
     ensures { result.now ≡ bytes_at tokens.now number }
 {
     match tokens.get(number) {

@@ -3,4 +3,5 @@ mod Appending
 mod Alone
 pub mod PutItem
 mod Splitting
-mod OneMaterial
+pub mod OneMaterial
+pub mod MaterialElements

@@ -15,7 +15,7 @@ use Rattle.item_contents.specs.Materials.{IsWholePart, is_list, IsBadAt, Materia
 
 -- An object is the element in front.
 
-record IsFront (part rest : List ℕ) : Type 0 where
+pub record IsFront (part rest : List ℕ) : Type 0 where
   pub element : Element
   pub found : element_at (part ++ rest) ≡ Some element
   pub whole : part ≡ element.whole
@@ -27,7 +27,7 @@ is_element part w = elim (begins_with_0 part) as (λ b. Fits (cond b certificate
   | false ↦ λ f. (f.0, f.1, f.2)
 ] w.fits
 
-front_of : (part rest : List ℕ) → IsWholePart part → IsFront part rest
+pub front_of : (part rest : List ℕ) → IsWholePart part → IsFront part rest
 front_of part rest w =
     let e = is_element part w in record {
       element = e.0;

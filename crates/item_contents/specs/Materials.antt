@@ -1,7 +1,8 @@
 -- Certificates and revocation lists one after another: RFC 5280, sections 4.1 and 5.1. X.690, 8.1 and 10.1.
-use Rattle.std.specs.Prelude.{◌≡◌, ℕ, ◌≤◌, Bool, not, List, ◌++◌, length, filter, Err}
+use Rattle.std.specs.Prelude.{◌≡◌, ℕ, ◌≤◌, Bool, not, List, ◌++◌, length, filter, map, Err}
 use Rattle.std.specs.List.{All, concat}
 use Rattle.der_values.specs.Element.{element_at}
+use Rattle.der_values.specs.Elements.{elements}
 use Rattle.der_values.specs.Fits.{IsObject}
 use Rattle.x509_certs.specs.Data.{begins_with_0, layout_of, object_in}
 use Rattle.item_contents.specs.declared.material.MaterialFault.{MaterialFault}
@@ -21,6 +22,13 @@ pub record IsMaterialOf (bytes : List ℕ) (certificates lists : List (List ℕ)
   pub joined : concat parts ≡ bytes
   pub certificates_are : certificates ≡ filter begins_with_0 parts
   pub lists_are : lists ≡ filter is_list parts
+
+-- the certificates and the revocation lists among the elements of bytes, in their order
+abbrev pub certificates_in : List ℕ → List (List ℕ)
+certificates_in bytes = filter begins_with_0 (map (λ element. element.whole) (elements bytes))
+
+abbrev pub lists_in : List ℕ → List (List ℕ)
+lists_in bytes = filter is_list (map (λ element. element.whole) (elements bytes))
 
 -- The bytes are whole objects one after another, and others behind them, of which this is the first bad element.
 pub record IsBadAt (bytes : List ℕ) (at : ℕ) : Type 0 where
@@ -42,3 +50,8 @@ MaterialIsOne = (bytes : List ℕ)
     → ((certificates lists others more : List (List ℕ)) → IsMaterialOf bytes certificates lists → IsMaterialOf bytes others more → (certificates ≡ others) × (lists ≡ more))
     × ((at place : ℕ) → IsBadAt bytes at → IsBadAt bytes place → at ≡ place)
     × ((certificates lists : List (List ℕ)) (at : ℕ) → IsMaterialOf bytes certificates lists → IsBadAt bytes at → ⊥)
+
+-- The law: where bytes are whole objects one after another, the certificates and lists are those among their elements.
+abbrev pub MaterialIsElements : Type 0
+MaterialIsElements = (bytes : List ℕ) (certificates lists : List (List ℕ)) → IsMaterialOf bytes certificates lists
+    → (certificates ≡ certificates_in bytes) × (lists ≡ lists_in bytes)

@@ -4,10 +4,11 @@ ghost use Rattle.std.specs.Prelude.{◌≡◌};
 
 use algorithms::Digest;
 use signature_shape::What;
+use tst_tokens::TokenFault;
 use xa_io::Octs;
 
 /// Why an item of a command is refused. `k` is the number of a Reference, from 1; 0 stands for the command's own identifier. `at` is the
-/// place of an element's first byte in the document, from 0.
+/// place of an element's first byte in the document, from 0. Times are in seconds since 1970.
 #[derive(Debug, Drop)]
 pub enum Code {
     /// A1: the document has no signature.
@@ -36,6 +37,8 @@ pub enum Code {
     SelfCover { k: u32 },
     /// A13: the signature has a value.
     AlreadySigned,
+    /// A14: the signature has no value.
+    NotSigned,
     /// A15: the octets of a Reference have another digest than it tells: `got` is theirs, `want` what it tells.
     DigestDiffers { k: u32, got: Digest, want: Octs },
     /// A16: no certificate of `KeyInfo` has the digest of the signing certificate.
@@ -46,6 +49,22 @@ pub enum Code {
     KeyKind,
     /// A19: the signature value doesn't verify.
     ValueFails,
+    /// A20: the octets are no time-stamp token that is sound over what it would cover (RFC 3161, section 2.4.2).
+    Token(TokenFault),
+    /// A21: the token's time is after the moment.
+    FromFuture { gen_time: i64, moment: i64 },
+    /// A22: a time-stamp that the token would cover has a later time: `earlier` is that of the first such.
+    TimeOrder { gen_time: i64, earlier: i64 },
+    /// A23: the signature has a time-stamp on the archive, behind which none on the signature is put.
+    AfterArchive,
+    /// A24: the signature has no time-stamp on the signature.
+    NotStamped,
+    /// A25: the octets aren't whole certificates and revocation lists; `at` is the place of the first bad element in them, from 0.
+    MaterialShape { at: u32 },
+    /// A26: there are no octets.
+    MaterialEmpty,
+    /// A27: the certificate of who made it has no complete walk to an anchor: 0 is the signer, else the number of the token, from 1.
+    NotComplete { object: u32 },
     /// A28: the new document passes a limit on bytes, depth, nodes or objects.
     TooLarge,
     /// A29: an identifier that the signature would have is in the document.
@@ -73,11 +92,20 @@ impl Code {
             Code::Base64 { .. } => 11,
             Code::SelfCover { .. } => 12,
             Code::AlreadySigned => 13,
+            Code::NotSigned => 14,
             Code::DigestDiffers { .. } => 15,
             Code::CertificateDiffers => 16,
             Code::UnknownMethod => 17,
             Code::KeyKind => 18,
             Code::ValueFails => 19,
+            Code::Token(_) => 20,
+            Code::FromFuture { .. } => 21,
+            Code::TimeOrder { .. } => 22,
+            Code::AfterArchive => 23,
+            Code::NotStamped => 24,
+            Code::MaterialShape { .. } => 25,
+            Code::MaterialEmpty => 26,
+            Code::NotComplete { .. } => 27,
             Code::TooLarge => 28,
             Code::IdTaken => 29,
         }

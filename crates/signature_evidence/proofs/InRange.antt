@@ -73,7 +73,7 @@ elements_no_token : (elements : List Element) (bytes : List ℕ) → has (map (�
 elements_no_token [] bytes = refl
 elements_no_token (element ∷ elements) bytes = elements_no_token elements bytes
 
-certificate_had : (certs : List (List ℕ)) (p : List ℕ → Bool) (bytes : List ℕ) → find p certs ≡ Some bytes → has (map (λ cert. Certificate cert) certs) (Certificate bytes) ≡ true
+pub certificate_had : (certs : List (List ℕ)) (p : List ℕ → Bool) (bytes : List ℕ) → find p certs ≡ Some bytes → has (map (λ cert. Certificate cert) certs) (Certificate bytes) ≡ true
 certificate_had [] p bytes e = absurd (none-some _ e)
 certificate_had (cert ∷ certs) p bytes e = by_bool (p cert) (certificate_had certs p bytes) e
   where
@@ -86,20 +86,20 @@ certificate_had (cert ∷ certs) p bytes e = by_bool (p cert) (certificate_had c
 
 -- Among all objects.
 
-front_had : (document : Nodes) (signature : Spot) (properties : List Spot) (object : Object) → has (objects_in_front document signature) object ≡ true → has (objects_to document signature properties) object ≡ true
+pub front_had : (document : Nodes) (signature : Spot) (properties : List Spot) (object : Object) → has (objects_in_front document signature) object ≡ true → has (objects_to document signature properties) object ≡ true
 front_had document signature properties object e =
     had_before (with_objects [] (objects_in_front document signature)) (flat_map (objects_in document) properties) object (had_among [] (objects_in_front document signature) object e)
 
-all_had : (document : Nodes) (signature : Spot) (more : List Object) (object : Object) → has (objects_to document signature (parts.properties document signature)) object ≡ true → has (objects document signature more) object ≡ true
+pub all_had : (document : Nodes) (signature : Spot) (more : List Object) (object : Object) → has (objects_to document signature (parts.properties document signature)) object ≡ true → has (objects document signature more) object ≡ true
 all_had document signature more object e = had_before (objects_to document signature (parts.properties document signature)) more object e
 
-value_had : (document : Nodes) (signature : Spot) (properties : List Spot) → has (objects_to document signature properties) Value ≡ true
+pub value_had : (document : Nodes) (signature : Spot) (properties : List Spot) → has (objects_to document signature properties) Value ≡ true
 value_had document signature properties =
     front_had document signature properties Value
     (has_behind (octets_from 1 (length (parts.references document signature))) (Value ∷ map (λ bytes. Certificate bytes) (key_octets document signature)) Value refl)
 
 -- the objects where more properties are read begin with those where some are
-objects_go_on : (document : Nodes) (signature : Spot) (before after : List Spot)
+pub objects_go_on : (document : Nodes) (signature : Spot) (before after : List Spot)
     → objects_to document signature (before ++ after) ≡ with_objects (objects_to document signature before) (flat_map (objects_in document) after)
 objects_go_on document signature before after =
     ap (with_objects (with_objects [] (objects_in_front document signature))) (flat_map-append (objects_in document) before after)
@@ -109,7 +109,7 @@ longer : (objects more : List Object) → length objects ≤ length (with_object
 longer objects more =
     let e = ap (λ (xs : List Object). length xs) (new_behind objects more) ∙ length-append objects (new_ones objects more) in omega (arith, e)
 
-longer_to : (document : Nodes) (signature : Spot) (more : List Object) (before after : List Spot) → parts.properties document signature ≡ before ++ after
+pub longer_to : (document : Nodes) (signature : Spot) (more : List Object) (before after : List Spot) → parts.properties document signature ≡ before ++ after
     → length (objects_to document signature before) ≤ length (objects document signature more)
 longer_to document signature more before after e =
     let a = longer (objects_to document signature before) (flat_map (objects_in document) after) in
@@ -119,7 +119,7 @@ longer_to document signature more before after e =
 
 -- Time-stamps.
 
-below_all : (first count bound : ℕ) → first + count ≤ bound → All (λ number. number < bound) (numbers_from first count)
+pub below_all : (first count bound : ℕ) → first + count ≤ bound → All (λ number. number < bound) (numbers_from first count)
 below_all first zero bound le = All-nil (λ number. number < bound)
 below_all first (suc count) bound le = All-cons (λ number. number < bound) first (numbers_from (suc first) count) (omega arith) (below_all (suc first) count bound (omega arith))
 
@@ -156,7 +156,7 @@ stands_in handed document signature all before (property ∷ list) split stamped
         (Contains-cases (stamp_of handed document signature before property) stamped (stamps_from handed document signature (before ++ property ∷ []) list) h)
     by_bool false e later h = later h
 
-token_in : (document : Nodes) (property : Spot) → parts.is_stamp property ≡ true → has (objects_in document property) (Token (parts.token document property)) ≡ true
+pub token_in : (document : Nodes) (property : Spot) → parts.is_stamp property ≡ true → has (objects_in document property) (Token (parts.token document property)) ≡ true
 token_in document property e =
     ap (λ b. has (cond b (objects_of_token (parts.token document property)) (material_in document property)) (Token (parts.token document property))) e
     ∙ first_had (Token (parts.token document property)) (map (λ element. Certificate element.whole) (certificates_of (parts.token document property)))

@@ -29,10 +29,10 @@ pub with_all-append : (met xs ys : List (List ℕ)) → with_all met (xs ++ ys) 
 with_all-append met [] ys = refl
 with_all-append met (x ∷ xs) ys = with_all-append (with_bytes met x) xs ys
 
-abbrev spots_of : Doc → List ShownProperty → List Spot
+abbrev pub spots_of : Doc → List ShownProperty → List Spot
 spots_of doc found = map (spot_of doc) (map (λ property. property.node) found)
 
-abbrev bad_in : Nodes → List Datum → List Datum
+abbrev pub bad_in : Nodes → List Datum → List Datum
 bad_in document data_ = filter (is_bad is_whole document) data_
 
 properties_bytes : (doc : Doc) (found : List ShownProperty) → All (IsProperty doc) found → bytes_of (flat_map (objects_in (document_in doc)) (spots_of doc found)) ≡ flat_map bytes_in found
@@ -55,7 +55,7 @@ properties_kept doc (property ∷ found) each whole e =
     (properties_kept doc found (All-tail (IsProperty doc) property found each) (All-tail HoldsWhole property found whole) (behind_nothing (bad_in document (data_of document spot)) _ both))
 
 -- No certificate, list or token of a signature that is read is bad.
-none_bad : (doc : Doc) (parts : Shown) → IsAnswer doc (Ok parts) → bad_in (document_in doc) (flat_map (data_of (document_in doc)) (model.properties (document_in doc) (spot_of doc parts.signature))) ≡ []
+pub none_bad : (doc : Doc) (parts : Shown) → IsAnswer doc (Ok parts) → bad_in (document_in doc) (flat_map (data_of (document_in doc)) (model.properties (document_in doc) (spot_of doc parts.signature))) ≡ []
 none_bad doc parts (e, p, w) =
     let document = document_in doc in
     let signature : Spot = spot_of doc parts.signature in

@@ -78,7 +78,7 @@ token_kept token w = All-cons IsKept (Token token) (map (λ element. Certificate
 abbrev octets_of_datum : Nodes → Datum → List ℕ
 octets_of_datum document datum = octets_or_none document (datum.spot ∷ [])
 
-abbrev objects_of_data : Nodes → List Datum → List Object
+abbrev pub objects_of_data : Nodes → List Datum → List Object
 objects_of_data document data_ = flat_map (λ datum. objects_of_datum datum.kind (octets_of_datum document datum)) data_
 
 datum_bytes : (kind : DatumKind) (octets : List ℕ) → (kind ≡ model.Token → ⊥) → bytes_of (objects_of_datum kind octets) ≡ octets ∷ []
@@ -87,7 +87,7 @@ datum_bytes model.RevocationList octets n = refl
 datum_bytes model.Token octets n = absurd (n refl)
 
 -- it is no token
-abbrev IsNoToken : Datum → Type 0
+abbrev pub IsNoToken : Datum → Type 0
 IsNoToken datum = datum.kind ≡ model.Token → ⊥
 
 data_bytes : (document : Nodes) (data_ : List Datum) → All IsNoToken data_ → bytes_of (objects_of_data document data_) ≡ all_octets document data_
@@ -114,7 +114,7 @@ one_no_token document values = by_name (is_called (xades (codes "CertificateValu
     by_name true = kind_no_token model.Certificate certificate_no_token _
     by_name false = kind_no_token model.RevocationList list_no_token _
 
-values_no_token : (document : Nodes) (values : List Spot) → All IsNoToken (flat_map (data_of_values document) values)
+pub values_no_token : (document : Nodes) (values : List Spot) → All IsNoToken (flat_map (data_of_values document) values)
 values_no_token document [] = All-nil IsNoToken
 values_no_token document (v ∷ values) = All-append IsNoToken (data_of_values document v) (flat_map (data_of_values document) values) (one_no_token document v) (values_no_token document values)
 

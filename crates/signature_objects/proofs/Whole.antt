@@ -59,10 +59,10 @@ whole_object tag rule inner bytes e = (read_object-fits (element tag rule inner)
     by_empty true f = absurd (not_both (sym f))
     by_empty false f = by_read (read (element tag rule inner) (content_of bytes) 0) refl f
 
-certificate_is : (bytes : List ℕ) → IsWhole Certificate bytes → IsObject objects.certificate bytes
+pub certificate_is : (bytes : List ℕ) → IsWhole Certificate bytes → IsObject objects.certificate bytes
 certificate_is bytes w = whole_object _ _ _ bytes w
 
-list_is : (bytes : List ℕ) → IsWhole RevocationList bytes → IsObject objects.revocation_list bytes
+pub list_is : (bytes : List ℕ) → IsWhole RevocationList bytes → IsObject objects.revocation_list bytes
 list_is bytes w = whole_object _ _ _ bytes w
 
 pub token_is : (bytes : List ℕ) → IsWhole Token bytes → IsObject tokens.token bytes

@@ -1,3 +1,4 @@
 pub mod Looking
 pub mod Told
 pub mod Whole
+pub mod OneFault

@@ -2,12 +2,14 @@
 #![tactic(auto)]
 
 mod faults;
+mod laws;
 mod next_stamps;
 mod orders;
 mod soundness;
 mod times;
 
 pub use faults::{OrderFault, StampFault};
+pub use laws::stamp_faults_are_one;
 pub use next_stamps::{NextStamp, check_next, judge_next};
 pub use orders::{has_stamp, order_fault};
 pub use soundness::check_over;

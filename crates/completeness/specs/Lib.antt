@@ -1,0 +1,3 @@
+pub mod Signers
+pub mod Complete
+pub mod Laws

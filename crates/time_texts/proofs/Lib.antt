@@ -1,0 +1,2 @@
+pub mod TextsOfTimes
+pub mod Clocks
