@@ -6,3 +6,4 @@ mod Preparation
 mod Outcomes
 mod OneItem
 mod Steps
+pub mod OneAnswer

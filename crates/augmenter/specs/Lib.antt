@@ -1,3 +1,4 @@
+pub mod Findings
 pub mod Targets
 pub mod Preparing
 pub mod Answers

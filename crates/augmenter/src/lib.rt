@@ -5,6 +5,7 @@
 mod attaching;
 mod items;
 mod judging;
+mod laws;
 mod named_octets;
 mod preparing;
 mod reading;
@@ -14,6 +15,7 @@ mod targets;
 
 pub use attaching::attach;
 pub use items::{Item, ItemKind};
+pub use laws::answers_are_one;
 pub use preparing::prepare;
 pub use refusals::Refusal;
 pub use signature_checks::Code;
