@@ -1,0 +1,3 @@
+pub mod Soundnesses
+pub mod OneAnswer
+pub mod OneReport

@@ -1,0 +1,4 @@
+pub mod WrittenLines
+pub mod Reported
+pub mod GenTimes
+pub mod Timed

@@ -1,0 +1,4 @@
+pub mod Facts
+pub mod Words
+pub mod Texts
+pub mod Shown

@@ -1,0 +1,9 @@
+pub mod Assembled
+pub mod Below
+pub mod Counts
+pub mod Keyed
+pub mod Marks
+pub mod Parting
+pub mod Referred
+pub mod Shown
+pub mod Stamped

@@ -1,0 +1,3 @@
+pub mod OnDigests
+pub mod OnTokens
+pub mod Built
