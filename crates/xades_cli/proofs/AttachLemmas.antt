@@ -1,30 +1,32 @@
 -- What `attach` comes to, by what was found on the way.
-use Rattle.std.proofs.Common.{◌≡◌, ℕ, zero, suc, ◌+◌, ◌<◌, ◌≤◌, Bool, true, false, List, [], ◌∷◌, ◌++◌, length, map, refl, sym, ap, ◌∙◌, subst, append_assoc, arith}
+use Rattle.std.proofs.Common.{◌≡◌, ℕ, suc, ◌≤◌, true, false, List, [], ◌∷◌, ◌++◌, length, map, refl, sym, ap, ◌∙◌, subst, append_assoc, arith}
 use Rattle.std.proofs.lemmas.List.{append-nil, map-append}
-use Rattle.std.specs.Prelude.{Option, None, Some, Result, Ok, Err}
-use Rattle.augmenter.specs.Attaching.{ArePassed, IsFirstRefused, code_at, with_all}
-use Rattle.augmenter.specs.Items.{item_code, with_one}
+use Rattle.std.specs.Prelude.{ℤ, IsSome, Option, None, Some, Result, Ok, Err}
 use Rattle.augmenter.specs.declared.items.Item.{Item}
 use Rattle.augmenter.specs.declared.items.ItemKind.{ItemKind}
-use Rattle.document_model.specs.Documents.{fault}
 use Rattle.policy_rules.specs.Rules.{Rules}
-use Rattle.signature_checks.specs.declared.codes.Code.{Code}
 use Rattle.signature_model.specs.Chains.{Handed}
 use Rattle.whole_files.specs.Roles.{is_external}
-use Rattle.whole_files.specs.Wants.{Held, Want, AreFor, held_of}
+use Rattle.whole_files.specs.Wants.{Held, AreFor, held_of}
 use Rattle.whole_files.specs.declared.file.File.{File}
 use Rattle.whole_files.specs.declared.role.Role.{Role}
 use Rattle.whole_files.specs.declared.role.Role.TheVariants as roles
-use Rattle.xades_cli.specs.Attach.{first_refused, item_by, items_of, items_outcome, kind_of, refused_by, unless_refused}
+use Rattle.xades_cli.specs.Attach.{IsAttached, IsAttachedOf, IsAttachOutcome, IsItemsOutcome, IsOutcomeBy, item_by, items_of, kind_of}
 use Rattle.policy_rules.specs.Text as texts
-use Rattle.xades_cli.specs.Attach.{IsAttached, IsAttachedOf, attach_by, attach_outcome}
-use Rattle.xades_cli.specs.Attaching.{Attaches, attach_wants, item_want}
-use Rattle.xades_cli.specs.Outcomes.{Outcome, IsOf, Writes, RefusesItem}
-use Rattle.xades_cli.specs.Prepare.{TextSays, by_policy, unless_faulty}
-use Rattle.xades_cli.specs.Signing.{handed_by}
-use Rattle.xades_cli.specs.Wanting.{external_want}
+use Rattle.xades_cli.specs.Computed.{IsRefusalOf, IsResultOf}
+use Rattle.command_words.specs.Attaching.{Attaches, attach_wants, item_want}
+use Rattle.xades_cli.specs.Outcomes.{Outcome, IsOf, RefusesDocument, RefusesPolicy}
+use Rattle.xades_cli.specs.declared.stop.Refusal.TheVariants as refusals
+use Rattle.augmenter.specs.Answers.{IsFaultyDocument}
+use Rattle.doc_spans.specs.declared.faults.DocFault.{DocFault}
+use Rattle.doc_spans.specs.declared.faults.DocFault.TheVariants as documents
+use Rattle.document_model.specs.Documents.{fault}
+use Rattle.xades_cli.specs.Stages.{by_policy, policy_fault}
+use Rattle.xades_cli.specs.Handing.{handed_by}
+use Rattle.command_words.specs.Wanting.{external_want}
 use Rattle.xades_cli.specs.declared.answers.Answer.{Answer}
 use Rattle.xades_cli.specs.declared.stop.Stop.{Stop}
+use Rattle.xades_cli.proofs.PolicyStops.{stopped_by_policy}
 use Rattle.whole_files.specs.Roles.{is_document}
 use Rattle.whole_files.specs.Wants.{document_of, policy_of}
 
@@ -60,48 +62,41 @@ external_no_item roles.Data e = cc
 external_no_item roles.Archive e = cc
 external_no_item roles.More e = cc
 
--- The first item that is refused.
-
-none_refused : (rules : Rules) (handed : Handed) (number : ℕ) (items : List Item) (bytes : List ℕ) → ArePassed rules handed items bytes (length items)
-    → first_refused rules handed number items bytes ≡ None
-none_refused rules handed number [] bytes p = refl
-none_refused rules handed number (item ∷ items) bytes p =
-    ap (λ found. refused_by number found (first_refused rules handed (suc number) items (with_one item bytes))) (p 0 (omega arith))
-    ∙ none_refused rules handed (suc number) items (with_one item bytes) (λ i l. p (suc i) (omega (arith, l)))
-
-one_refused : (rules : Rules) (handed : Handed) (number i : ℕ) (items : List Item) (bytes : List ℕ) (code : Code) → ArePassed rules handed items bytes i
-    → code_at rules handed items bytes i ≡ Some code → first_refused rules handed number items bytes ≡ Some (number + i, code)
-one_refused rules handed number zero [] bytes code p e = cc
-one_refused rules handed number (suc i) [] bytes code p e = cc
-one_refused rules handed number zero (item ∷ items) bytes code p e =
-    let same : number ≡ number + 0 = omega arith in
-    ap (λ found. refused_by number found (first_refused rules handed (suc number) items (with_one item bytes))) e ∙ ap (λ n. Some (n, code)) same
-one_refused rules handed number (suc i) (item ∷ items) bytes code p e =
-    let same : suc number + i ≡ number + suc i = omega arith in
-    ap (λ found. refused_by number found (first_refused rules handed (suc number) items (with_one item bytes))) (p 0 (omega arith))
-    ∙ one_refused rules handed (suc number) i items (with_one item bytes) code (λ j l. p (suc j) (omega (arith, l))) e
-    ∙ ap (λ n. Some (n, code)) same
-
-pub attached : (rules : Rules) (handed : Handed) (items : List Item) (bytes : List ℕ) → fault bytes ≡ None → ArePassed rules handed items bytes (length items)
-    → unless_faulty bytes (fault bytes) (items_outcome rules handed items bytes) ≡ Writes (with_all items bytes)
-attached rules handed items bytes none p =
-    ap (λ f. unless_faulty bytes f (items_outcome rules handed items bytes)) none ∙ ap (unless_refused (with_all items bytes)) (none_refused rules handed 1 items bytes p)
-
-pub refused : (rules : Rules) (handed : Handed) (items : List Item) (bytes : List ℕ) (number : ℕ) (code : Code) → fault bytes ≡ None
-    → IsFirstRefused rules handed items bytes number code
-    → unless_faulty bytes (fault bytes) (items_outcome rules handed items bytes) ≡ RefusesItem number code
-refused rules handed items bytes number code none h =
-    let counted = h.counted in
-    let same : 1 + h.i ≡ number = omega (arith, counted) in
-    ap (λ f. unless_faulty bytes f (items_outcome rules handed items bytes)) none
-    ∙ ap (unless_refused (with_all items bytes)) (one_refused rules handed 1 h.i items bytes code h.earlier h.refused)
-    ∙ ap (λ n. RefusesItem n code) same
-
 -- What was read for an attachment.
 
-pub refused_policy : (held : List Held) (text : List ℕ) (stop : Stop) → text ≡ policy_of held → ((later : Rules → Outcome) → IsOf (by_policy (texts.policy_of text) later) (Err stop))
-    → IsOf (attach_outcome held) (Err stop)
-refused_policy held text stop same of = subst (λ t. IsOf (by_policy (texts.policy_of t) (attach_by held)) (Err stop)) same (of (attach_by held))
+-- a document that is refused for a fault has one
+
+pub has_fault : {A : Type 0} (found : Option A) (a : A) → found ≡ Some a → IsSome found
+has_fault found a e = subst (λ o. IsSome o) (sym e) refl
+
+pub some_fault : (bytes : List ℕ) (found : DocFault) → IsFaultyDocument bytes found → IsSome (fault bytes)
+some_fault bytes (documents.Item at) is = has_fault _ _ is
+some_fault bytes (documents.Doctype at) is = has_fault _ _ is
+some_fault bytes (documents.Depth at) is = has_fault _ _ is
+some_fault bytes (documents.Nodes at) is = has_fault _ _ is
+some_fault bytes documents.End is = has_fault _ _ is
+some_fault bytes documents.OutOfMemory is = absurd is
+
+pub faulty_items : (rules : Rules) (handed : Handed) (at : ℤ) (items : List Item) (bytes : List ℕ) (found : DocFault) → IsFaultyDocument bytes found
+    → IsRefusalOf (IsItemsOutcome rules handed at items bytes) (refusals.Document found (length bytes))
+faulty_items rules handed at items bytes found is = record {
+  outcome = RefusesDocument bytes;
+  comes = (refl, some_fault bytes found is);
+  refuses = (is, refl);
+}
+
+pub refused_policy : (at : ℤ) (held : List Held) (text : List ℕ) (stop : Stop) → text ≡ policy_of held → ((later : Rules → Outcome) → IsOf (by_policy (texts.policy_of text) later) (Err stop))
+    → IsResultOf (IsAttachOutcome at held) (IsAttached held) (Err stop)
+refused_policy at held text stop same of =
+    stopped_by_policy (texts.policy_of (policy_of held)) (IsAttachOutcome at held) (IsAttached held) stop
+    (λ found e. subst (λ policy. IsOutcomeBy policy at held (RefusesPolicy (policy_fault found))) (sym e) refl)
+    (λ later. subst (λ t. IsOf (by_policy (texts.policy_of t) later) (Err stop)) same (of later))
+
+-- what comes to be by one policy comes to be by that of the files
+pub accepted_policy : (rules : Rules) (at : ℤ) (held : List Held) (text : List ℕ) (result : Result Answer Stop) → text ≡ policy_of held → texts.policy_of text ≡ Ok rules
+    → IsResultOf (IsOutcomeBy (Ok rules) at held) (IsAttached held) result → IsResultOf (IsAttachOutcome at held) (IsAttached held) result
+accepted_policy rules at held text result same is of =
+    subst (λ policy. IsResultOf (IsOutcomeBy policy at held) (IsAttached held) result) (sym is ∙ ap texts.policy_of same) of
 
 no_items : (names : List (List ℕ)) (held : List Held) → AreFor (map external_want names) held → items_of held ≡ []
 no_items [] [] r = refl
@@ -163,11 +158,9 @@ module _ (asked : Attaches) (files : List File) (file : File) (others : List Fil
           let few_rest = few_items asked.items asked.externals (map held_of rest) r.1.1 in
           omega (arith, same, as_rest, few_rest, small)
 
-  pub outcome : (rules : Rules) (document : List ℕ) (result : Result Answer Stop) → document ≡ file.bytes
-      → IsOf (unless_faulty document (fault document) (items_outcome rules handed items document)) result → IsOf (attach_by (map held_of files) rules) result
-  outcome rules document result own of =
+  pub outcome : (rules : Rules) (at : ℤ) (document : List ℕ) (result : Result Answer Stop) → document ≡ file.bytes
+      → IsResultOf (IsItemsOutcome rules handed at items document) (IsAttachedOf items document) result
+      → IsResultOf (IsOutcomeBy (Ok rules) at (map held_of files)) (IsAttached (map held_of files)) result
+  outcome rules at document result own of =
       let whole = own ∙ bytes in
-      subst (λ o. IsOf o result) (λ i. unless_faulty (whole i) (fault (whole i)) (items_outcome rules (given i) (all_items i) (whole i))) of
-
-  pub says : (document : List ℕ) (result : Result Answer Stop) → document ≡ file.bytes → TextSays (IsAttachedOf items document) result → TextSays (IsAttached (map held_of files)) result
-  says document result own of = subst (λ Says. TextSays Says result) (λ i. IsAttachedOf (all_items i) ((own ∙ bytes) i)) of
+      subst (λ (all : Handed × List Item × List ℕ). IsResultOf (IsItemsOutcome rules all.0 at all.1 all.2) (IsAttachedOf all.1 all.2) result) (λ i. (given i, all_items i, whole i)) of

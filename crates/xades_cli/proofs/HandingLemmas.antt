@@ -7,12 +7,12 @@ use Rattle.document_model.specs.Characters.{◌is◌}
 use Rattle.document_model.specs.Items.{or_else}
 use Rattle.reference_chains.specs.HandedIn.{one_more}
 use Rattle.signature_model.specs.Chains.{Handed}
-use Rattle.whole_files.specs.Roles.{is_external, limit_of}
+use Rattle.whole_files.specs.Roles.{is_external}
 use Rattle.whole_files.specs.Wants.{Held, held_of}
 use Rattle.whole_files.specs.declared.file.File.{File}
 use Rattle.whole_files.proofs.HeldLemmas.{external_limit}
-use Rattle.xades_cli.specs.Handing.{AreShort}
-use Rattle.xades_cli.specs.Signing.{handed_by}
+use Rattle.signature_checks.specs.Opening.{AreShort}
+use Rattle.xades_cli.specs.Handing.{handed_by}
 
 -- the first that has it
 one_or : (has : Bool) (bytes : List ℕ) (later more : Option (List ℕ)) → (if has then Some bytes else or_else later more) ≡ or_else (if has then Some bytes else later) more

@@ -1,12 +1,13 @@
-pub mod SameHanded
+pub mod Computing
+pub mod PolicyStops
+pub mod ValidateLemmas
+pub mod ValidateOnce
+pub mod AttachOnce
 pub mod CommandLemmas
 pub mod OctetLemmas
 pub mod DoneLemmas
 pub mod RunLemmas
-pub mod MakerLemmas
-pub mod WordLemmas
 pub mod HandingLemmas
-pub mod FaultPlaces
 pub mod TimeTexts
 pub mod WritableTexts
 pub mod ReadyDrafts

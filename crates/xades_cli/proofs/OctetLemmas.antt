@@ -1,17 +1,19 @@
--- The parts of a signature that are one element each.
-use Rattle.std.proofs.Common.{◌≡◌, [], ◌∷◌, sym, ap, ◌∙◌, append-nil}
-use Rattle.std.specs.Prelude.{unwrap_or}
-use Rattle.document_model.specs.Canonical.{octets_of}
-use Rattle.document_model.specs.NodeSets.{subtree}
-use Rattle.document_model.specs.Tree.{Nodes}
-use Rattle.signature_model.specs.Octets.{joined_octets, value_octets}
-use Rattle.signature_model.specs.Parts.{form_in, form_or, method, plain_form, signed_info}
-use Rattle.signature_model.specs.Spots.{Spot}
+-- What `octets` comes to where the document is read.
+use Rattle.std.proofs.Common.{◌≡◌, ℕ, List, ◌∙◌, ap}
+use Rattle.std.specs.Prelude.{None, Some}
+use Rattle.asked_octets.specs.Asking.{asked_octets, octets_code}
+use Rattle.asked_octets.specs.declared.purposes.Purpose.{Purpose}
+use Rattle.document_model.specs.Documents.{document_of, fault}
+use Rattle.qualifying_props.specs.Whole.{is_whole}
+use Rattle.signature_checks.specs.declared.codes.Code.{Code}
+use Rattle.signature_model.specs.Chains.{Handed}
+use Rattle.signature_model.specs.Readable.{answer}
+use Rattle.xades_cli.specs.Octets.{octets_outcome}
+use Rattle.xades_cli.specs.Outcomes.{RefusesItem}
+use Rattle.xades_cli.specs.Stages.{unless_against, unless_faulty}
 
--- SignedInfo alone is joined, in the form of the method
-pub info_octets : (document : Nodes) (signature info named : Spot) → info ∷ [] ≡ signed_info document signature → named ∷ [] ≡ method document signature
-    → octets_of (unwrap_or (form_in document named) plain_form) (subtree info.path) document ≡ value_octets document signature
-info_octets document signature info named is by =
-    sym (append-nil (octets_of (unwrap_or (form_in document named) plain_form) (subtree info.path) document))
-    ∙ ap (λ spots. joined_octets (form_or plain_form document (named ∷ [])) document spots) is
-    ∙ ap (λ methods. joined_octets (form_or plain_form document methods) document (signed_info document signature)) by
+pub octets_refused : (purpose : Purpose) (handed : Handed) (bytes : List ℕ) (code : Code) → fault bytes ≡ None → octets_code purpose handed bytes (document_of bytes) ≡ Some code
+    → octets_outcome purpose handed bytes ≡ RefusesItem 0 code
+octets_refused purpose handed bytes code none found =
+    ap (λ f. unless_faulty bytes f (unless_against (asked_octets purpose handed (document_of bytes) (answer is_whole (document_of bytes))) (octets_code purpose handed bytes (document_of bytes)))) none
+    ∙ ap (unless_against (asked_octets purpose handed (document_of bytes) (answer is_whole (document_of bytes)))) found

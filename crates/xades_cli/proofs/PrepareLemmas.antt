@@ -1,6 +1,6 @@
 -- What `prepare` comes to, by what was found on the way.
 use Rattle.std.proofs.Common.{◌≡◌, ℕ, suc, ◌+◌, ◌<◌, Bool, true, false, List, [], ◌∷◌, ◌++◌, length, map, refl, sym, ap, ◌∙◌, subst, append_assoc, if◌then◌else◌, arith}
-use Rattle.std.specs.Prelude.{Option, None, Some, Result, Ok, Err, slice_index_or, take}
+use Rattle.std.specs.Prelude.{None, Some, Result, Ok, Err, slice_index_or, take}
 use Rattle.std.specs.Str.{chars}
 use Rattle.std.proofs.Math.Seq.{take-suc}
 use Rattle.std.proofs.lemmas.List.{map-append}
@@ -17,9 +17,10 @@ use Rattle.whole_files.specs.Wants.{Held, AreFor, held_of, document_of, policy_o
 use Rattle.whole_files.specs.declared.file.File.{File}
 use Rattle.augmenter.specs.Preparing.{IsReady}
 use Rattle.xades_cli.specs.Outcomes.{Outcome, IsOf, RefusesData}
-use Rattle.xades_cli.specs.Prepare.{BadFile, IsPrepared, IsPreparedOf, TextSays, bad_certificate, by_policy, by_rules, certificates_of, draft_of, draft_outcome, prepare_outcome, unless_faulty, unless_partial, with_certificates}
-use Rattle.xades_cli.specs.Preparing.{IsPreparable, Prepares, prepare_wants}
-use Rattle.xades_cli.specs.Signing.{handed_by}
+use Rattle.xades_cli.specs.Stages.{by_policy, unless_faulty}
+use Rattle.xades_cli.specs.Prepare.{BadFile, IsPrepared, IsPreparedOf, TextSays, bad_certificate, by_rules, certificates_of, draft_of, draft_outcome, prepare_outcome, unless_partial, with_certificates}
+use Rattle.command_words.specs.Preparing.{IsPreparable, Prepares, prepare_wants}
+use Rattle.xades_cli.specs.Handing.{handed_by}
 use Rattle.xades_cli.specs.declared.answers.Answer.{Answer}
 use Rattle.xades_cli.specs.declared.stop.Stop.{Stop}
 use Rattle.xades_cli.proofs.ReadyDrafts.{are_handed, ready}

@@ -1,5 +1,5 @@
 -- Drafts that words and certificate files give are whole, and the octets of external URIs are handed in.
-use Rattle.std.proofs.Common.{◌≡◌, ℕ, suc, ◌+◌, ◌≤◌, ◌<◌, ◌^◌, Bool, true, false, ◌&&◌, cond, if◌then◌else◌, List, [], ◌∷◌, ◌++◌, length, map, Option, None, Some, refl, sym, ap, ◌∙◌, subst, arith, ℤ}
+use Rattle.std.proofs.Common.{◌≡◌, ℕ, suc, ◌≤◌, Bool, true, false, ◌&&◌, cond, if◌then◌else◌, List, [], ◌∷◌, ◌++◌, length, map, Option, None, Some, refl, ap, ◌∙◌, arith, ℤ}
 use Rattle.std.specs.Prelude.{All, Result, Ok, Err, filter, is_ok, is_some}
 use Rattle.std.specs.Str.{chars}
 use Rattle.std.proofs.lemmas.List.Elements.{All-head, All-tail}
@@ -21,9 +21,9 @@ use Rattle.word_patterns.specs.TextForms.{is_time, is_uri}
 use Rattle.x509_certs.specs.Layouts as layout
 use Rattle.augmenter.specs.Preparing.{IsReady}
 use Rattle.xades_cli.specs.Prepare.{bad_by, bad_certificate, bad_in, certificates_of, draft_of}
-use Rattle.xades_cli.specs.Preparing.{IsPreparable, Prepares, names_file, prepare_wants}
-use Rattle.xades_cli.specs.Signing.{handed_by}
-use Rattle.xades_cli.specs.Wanting.{certificate_want, document_want, external_want, policy_want}
+use Rattle.command_words.specs.Preparing.{IsPreparable, Prepares, names_file, prepare_wants}
+use Rattle.xades_cli.specs.Handing.{handed_by}
+use Rattle.command_words.specs.Wanting.{certificate_want, document_want, external_want, policy_want}
 use Rattle.xades_cli.proofs.TimeTexts.{time_simple, time_stays}
 use Rattle.xades_cli.proofs.WritableTexts.{id_writable, method_writable, uri_writable}
 

@@ -13,17 +13,19 @@ use Rattle.whole_files.specs.Faults.{HasGrown}
 use Rattle.whole_files.specs.Wants.{Held, AreFor, names_of, AreHeld}
 use Rattle.whole_files.specs.declared.fault.FileFault.TheVariants as faults
 use Rattle.word_patterns.proofs.GrammarLemmas.{faulty_don't_fit}
-use Rattle.xades_cli.specs.Asked.{Asked, asked_by}
-use Rattle.xades_cli.specs.Commands.{wants_of, ComesTo, IsComputed}
+use Rattle.command_words.specs.Asked.{Asked, asked_by}
+use Rattle.command_words.specs.Files.{wants_of}
+use Rattle.xades_cli.specs.Commands.{ComesTo, IsComputed}
 use Rattle.xades_cli.specs.Giving.{IsGiven}
 use Rattle.xades_cli.specs.Judging.{IsJudged, IsJudgedRight, IsAnswered, HasStopCause}
 use Rattle.xades_cli.specs.Lines.{IsSized}
-use Rattle.xades_cli.specs.Outcomes.{Outcome, Writes, Reports, RefusesDocument, RefusesPolicy, RefusesData, RefusesItem, IsFaultyDocument, IsToldOfPolicy, Gives, Refuses, Follows}
+use Rattle.augmenter.specs.Answers.{IsFaultyDocument}
+use Rattle.xades_cli.specs.Outcomes.{Outcome, Writes, Reports, RefusesDocument, RefusesPolicy, RefusesData, RefusesItem, IsToldOfPolicy, Gives, Refuses, Follows}
 use Rattle.xades_cli.specs.Runs.{IsRun, IsCarriedOut, HoldsNoMemory, ShelfState, SinkState, stage_of, OfOutcome, IsByWords, IsRight, HasCause}
 use Rattle.whole_files.specs.declared.fault.Unread.{Unread}
 use Rattle.whole_files.specs.declared.fault.Unread.TheVariants as unread
 use Rattle.xades_cli.specs.Stops.{ended_by, ended_by_refusal, stop_unread}
-use Rattle.xades_cli.specs.Words.{patterns, IsCommand}
+use Rattle.command_words.specs.Words.{patterns, IsCommand}
 use Rattle.xades_cli.specs.declared.answers.Answer.{Answer}
 use Rattle.xades_cli.specs.declared.answers.Answer.TheVariants.{Text, Report}
 use Rattle.xades_cli.specs.declared.status.Status.{Status}
@@ -152,7 +154,7 @@ refusal_not_done (refusals.Item item code) e = cc
 -- what was computed from the files is judged
 pub judged_by : (words : List (List ℕ)) (files : List Held) (result : Result Answer Stop) → IsCommand words → AreFor (wants_of (asked_by words)) files → IsComputed (asked_by words) files result → IsJudged words result
 judged_by words files (Ok answer) command read computed = command
-judged_by words files (Err (stops.Words index)) command read computed = absurd computed.computed
+judged_by words files (Err (stops.Words index)) command read computed = absurd computed
 judged_by words files (Err (stops.File name fault)) command read computed = command
 judged_by words files (Err (stops.Refusal refusal)) command read computed = (
   command,
@@ -161,7 +163,7 @@ judged_by words files (Err (stops.Refusal refusal)) command read computed = (
     read = read;
     outcome = computed.outcome;
     comes = computed.comes;
-    refuses = computed.computed;
+    refuses = computed.refuses;
   },
 )
 judged_by words files (Err stops.OutOfMemory) command read computed = tt
@@ -283,17 +285,17 @@ judged_right asked shelf files (Ok answer) held computed = record {
   held = held;
   outcome = computed.outcome;
   comes = computed.comes;
-  gives = computed.computed;
+  gives = computed.gives;
   says = computed.says;
 }
 judged_right asked shelf files (Err (stops.Words index)) held computed = tt
-judged_right asked shelf files (Err (stops.File name fault)) held computed = absurd computed.computed
+judged_right asked shelf files (Err (stops.File name fault)) held computed = absurd computed
 judged_right asked shelf files (Err (stops.Refusal refusal)) held computed = record {
   files = files;
   held = held;
   outcome = computed.outcome;
   comes = computed.comes;
-  refuses = computed.computed;
+  refuses = computed.refuses;
 }
 judged_right asked shelf files (Err stops.OutOfMemory) held computed = tt
 

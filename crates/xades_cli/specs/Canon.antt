@@ -1,13 +1,13 @@
 -- What `canon` comes to.
 use Rattle.std.specs.Prelude.{ℕ, List, Option, None, Some}
 use Rattle.std.specs.Str.{chars}
-use Rattle.document_model.specs.Documents
 use Rattle.document_model.specs.Documents.{fault, document_of}
 use Rattle.document_model.specs.Tree.{Nodes}
 use Rattle.document_model.specs.NodeSets.{Target, Missing, Single, Double, target_of, whole, subtree}
 use Rattle.document_model.specs.Canonical.{Form, octets_of}
 use Rattle.signature_checks.specs.declared.codes.Code.TheVariants.{TargetMissing, TargetTwice}
-use Rattle.xades_cli.specs.Outcomes.{Outcome, Writes, RefusesDocument, RefusesItem}
+use Rattle.xades_cli.specs.Outcomes.{Outcome, Writes, RefusesItem}
+use Rattle.xades_cli.specs.Stages.{unless_faulty}
 
 -- the canonical text of the element that an identifier names, where it names just one; a command that has no items refuses as item 0
 abbrev pub target_outcome : Form → Target → Nodes → Outcome
@@ -20,10 +20,5 @@ abbrev pub text_outcome : Form → Option (List ℕ) → Nodes → Outcome
 text_outcome form None document = Writes (octets_of form whole document)
 text_outcome form (Some id) document = target_outcome form (target_of (chars id) document) document
 
--- a document that has a fault is refused
-abbrev pub canon_by : Option Documents.Fault → Form → Option (List ℕ) → List ℕ → Outcome
-canon_by (Some f) form id document = RefusesDocument document
-canon_by None form id document = text_outcome form id (document_of document)
-
 abbrev pub canon_outcome : Form → Option (List ℕ) → List ℕ → Outcome
-canon_outcome form id document = canon_by (fault document) form id document
+canon_outcome form id document = unless_faulty document (fault document) (text_outcome form id (document_of document))

@@ -1,12 +1,12 @@
--- Octets that are handed in for References, and places in them.
-use Rattle.std.specs.Prelude.{◌≡◌, ℕ, ◌≤◌, List, length, Option, Some}
-use Rattle.reference_chains.specs.Decoding.{last_told}
-use Rattle.signature_model.specs.Chains.{Fault, Handed, NotBase64}
+-- Octets that are handed in for References: XML Signature 1.1, "The URI Attribute".
+use Rattle.std.specs.Prelude.{◌&&◌, if◌then◌else◌, List, [], ◌∷◌, None, Some}
+use Rattle.std.specs.Str.{chars}
+use Rattle.document_model.specs.Characters.{◌is◌}
+use Rattle.signature_model.specs.Chains.{Handed}
+use Rattle.whole_files.specs.Roles.{is_external}
+use Rattle.whole_files.specs.Wants.{Held}
 
--- none are longer than a file that is handed in may be
-abbrev pub AreShort : Handed → Type 0
-AreShort handed = (name octets : List ℕ) → handed name ≡ Some octets → length octets ≤ 33554432
-
--- a fault's place in base64 is no greater than what is told
-abbrev pub IsToldWhole : Option Fault → Type 0
-IsToldWhole found = (k at : ℕ) → found ≡ Some (NotBase64 k at) → at ≤ last_told
+-- the octets of the first file with a name, of those that are handed in for References
+abbrev pub handed_by : List Held → Handed
+handed_by [] wanted = None
+handed_by (file ∷ files) wanted = if is_external file.role && (wanted is chars file.name) then Some file.bytes else handed_by files wanted

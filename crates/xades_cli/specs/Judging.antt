@@ -4,10 +4,12 @@ use Rattle.xa_io.specs.Shelf.{Files}
 use Rattle.whole_files.specs.Faults.{Counts, HasRisenFor, IsFirstFault, IsWanted}
 use Rattle.whole_files.specs.Wants.{Want, Held, AreFor, AreHeld}
 use Rattle.word_patterns.specs.Grammar.{IsFaultyWord}
-use Rattle.xades_cli.specs.Asked.{Asked, asked_by}
-use Rattle.xades_cli.specs.Commands.{wants_of, AnswerSays, ComesTo}
+use Rattle.command_words.specs.Asked.{Asked, asked_by}
+use Rattle.command_words.specs.Files.{wants_of}
+use Rattle.xades_cli.specs.Commands.{ComesTo, DoneSays}
+use Rattle.xades_cli.specs.Computed.{AnswerSays}
 use Rattle.xades_cli.specs.Outcomes.{Outcome, Gives, Refuses}
-use Rattle.xades_cli.specs.Words.{patterns, IsCommand}
+use Rattle.command_words.specs.Words.{patterns, IsCommand}
 use Rattle.xades_cli.specs.declared.answers.Answer.{Answer}
 use Rattle.xades_cli.specs.declared.stop.Refusal.{Refusal}
 use Rattle.xades_cli.specs.declared.stop.Stop.{Stop}
@@ -36,7 +38,7 @@ pub record IsAnswered (asked : Asked) (shelf : Files) (answer : Answer) : Type 0
   pub outcome : Outcome
   pub comes : ComesTo asked files outcome
   pub gives : Gives outcome answer
-  pub says : AnswerSays asked files answer
+  pub says : AnswerSays (DoneSays asked files) answer
 
 -- and what is refused
 pub record IsRefusedBy (asked : Asked) (shelf : Files) (refusal : Refusal) : Type 0 where

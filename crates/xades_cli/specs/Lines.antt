@@ -7,8 +7,9 @@ use Rattle.whole_files.specs.Wants.{Held, AreHeld}
 use Rattle.signature_checks.specs.Codes.{code_number}
 use Rattle.policy_rules.specs.declared.fault.PolicyFault.{PolicyFault}
 use Rattle.policy_rules.specs.declared.fault.PolicyFault.TheVariants as policies
-use Rattle.xades_cli.specs.Asked.{Asked}
-use Rattle.xades_cli.specs.Commands.{wants_of, ComesTo}
+use Rattle.command_words.specs.Asked.{Asked}
+use Rattle.command_words.specs.Files.{wants_of}
+use Rattle.xades_cli.specs.Commands.{ComesTo}
 use Rattle.xades_cli.specs.Outcomes.{RefusesDocument}
 use Rattle.doc_spans.specs.Faults.{fault_number, fault_place}
 use Rattle.xades_cli.specs.declared.status.Status.{Status}

@@ -1,9 +1,7 @@
 -- What commands come to once their files are read, and what is given out or refused then.
 use Rattle.std.specs.Prelude.{◌≡◌, ℕ, Bool, true, false, List, length, Option, Result, Ok, Err}
 use Rattle.xa_io.specs.Sink.{appended, GaveFirst}
-use Rattle.doc_spans.specs.Faults.{IsFirstFault}
-use Rattle.doc_spans.specs.declared.faults.DocFault.{DocFault}
-use Rattle.doc_spans.specs.declared.faults.DocFault.TheVariants as documents
+use Rattle.augmenter.specs.Answers.{IsFaultyDocument}
 use Rattle.policy_rules.specs.declared.fault.PolicyFault.{PolicyFault}
 use Rattle.policy_rules.specs.declared.fault.PolicyFault.TheVariants as policies
 use Rattle.xades_cli.specs.declared.answers.Answer.{Answer}
@@ -25,11 +23,6 @@ pub data Outcome : Type 0 where
   RefusesPolicy : (fault : PolicyFault) → Outcome
   RefusesData : (name : List ℕ) (at : ℕ) → Outcome
   RefusesItem : (item : ℕ) (code : Code) → Outcome
-
--- the fault tells why a document is refused, and isn't want of memory
-abbrev pub IsFaultyDocument : List ℕ → DocFault → Type 0
-IsFaultyDocument document documents.OutOfMemory = ⊥
-IsFaultyDocument document fault = IsFirstFault fault document
 
 -- the fault of a policy isn't want of memory
 abbrev pub IsToldOfPolicy : PolicyFault → Type 0

@@ -3,15 +3,11 @@
 use Rattle.std.specs.Prelude.{ℕ, List, [], ◌∷◌, ◌++◌, map, Option, None, Some, Result, Ok, Err, if◌then◌else◌}
 use Rattle.std.specs.Str.{chars}
 use Rattle.der_values.specs.Layout.{read_object}
-use Rattle.document_model.specs.Documents
 use Rattle.document_model.specs.Documents.{fault, document_of}
 use Rattle.document_model.specs.Insertion.{Extends}
 use Rattle.document_model.specs.Items.{or_else}
-use Rattle.policy_rules.specs.Faults as policies
 use Rattle.policy_rules.specs.Rules.{Rules}
 use Rattle.policy_rules.specs.Text as texts
-use Rattle.policy_rules.specs.declared.fault.PolicyFault.{PolicyFault}
-use Rattle.policy_rules.specs.declared.fault.PolicyFault.TheVariants as told
 use Rattle.prepared_documents.specs.Bytes.{IsPreparedFrom}
 use Rattle.qualifying_props.specs.Digests.{digest}
 use Rattle.qualifying_props.specs.Whole.{is_whole}
@@ -23,10 +19,10 @@ use Rattle.whole_files.specs.Wants as files
 use Rattle.whole_files.specs.Wants.{Held, policy_of}
 use Rattle.x509_certs.specs.Layouts as layout
 use Rattle.augmenter.specs.Preparing.{draft_code, drafted_bytes}
-use Rattle.signature_checks.specs.declared.codes.Code.{Code}
-use Rattle.xades_cli.specs.Outcomes.{Outcome, Writes, RefusesDocument, RefusesPolicy, RefusesData, RefusesItem}
-use Rattle.xades_cli.specs.Preparing.{Prepares}
-use Rattle.xades_cli.specs.Signing.{handed_by}
+use Rattle.xades_cli.specs.Outcomes.{Outcome, RefusesData}
+use Rattle.command_words.specs.Preparing.{Prepares}
+use Rattle.xades_cli.specs.Handing.{handed_by}
+use Rattle.xades_cli.specs.Stages.{by_policy, unless_against, unless_faulty}
 use Rattle.xades_cli.specs.declared.answers.Answer.{Answer}
 use Rattle.xades_cli.specs.declared.answers.Answer.TheVariants.{Text, Report}
 use Rattle.xades_cli.specs.declared.prepare.BadFile as code
@@ -79,34 +75,15 @@ with_certificates certificates draft = record draft { certificates = draft.certi
 abbrev pub with_references : List (List ℕ) → Draft → Draft
 with_references uris draft = record draft { references = draft.references ++ uris }
 
--- the fault of a policy, as it is told
-abbrev pub policy_fault : policies.Fault → PolicyFault
-policy_fault policies.toml = told.Toml
-policy_fault (policies.field name) = told.Field name
-policy_fault (policies.anchor index) = told.Anchor index
-
--- Each test goes on to the next where it finds nothing.
-
-abbrev pub unless_against : List ℕ → Option Code → Outcome
-unless_against new (Some code) = RefusesItem 0 code
-unless_against new None = Writes new
-
 -- the document in some bytes with the signature that a draft gives, by the rules of a policy and the octets that are handed in
 abbrev pub draft_outcome : Rules → Handed → Draft → List ℕ → Outcome
 draft_outcome rules handed draft bytes =
     unless_against (drafted_bytes handed (document_of bytes) draft bytes) (draft_code rules handed (document_of bytes) draft bytes)
 
+-- a certificate file that isn't one whole certificate is refused
 abbrev pub unless_partial : Option BadFile → Outcome → Outcome
 unless_partial (Some bad) later = RefusesData bad.name bad.at
 unless_partial None later = later
-
-abbrev pub unless_faulty : List ℕ → Option Documents.Fault → Outcome → Outcome
-unless_faulty bytes (Some fault) later = RefusesDocument bytes
-unless_faulty bytes None later = later
-
-abbrev pub by_policy : Result Rules policies.Fault → (Rules → Outcome) → Outcome
-by_policy (Err fault) later = RefusesPolicy (policy_fault fault)
-by_policy (Ok rules) later = later rules
 
 -- the document, the certificate files, and then the draft
 abbrev pub by_rules : Prepares → List Held → Rules → Outcome

@@ -1,6 +1,6 @@
 -- Why a document stops a command.
 use Rattle.std.specs.Prelude.{◌≡◌, ℕ, List, length}
-use Rattle.xades_cli.specs.Outcomes.{IsFaultyDocument}
+use Rattle.augmenter.specs.Answers.{IsFaultyDocument}
 use Rattle.xades_cli.specs.declared.stop.Refusal.TheVariants.{Document}
 use Rattle.xades_cli.specs.declared.stop.Stop.{Stop}
 use Rattle.xades_cli.specs.declared.stop.Stop.TheVariants as stops

@@ -11,10 +11,11 @@ use Rattle.whole_files.specs.Wants.{Want, Held, AreHeld, names_of}
 use Rattle.whole_files.specs.declared.fault.FileFault.{FileFault}
 use Rattle.whole_files.specs.declared.fault.FileFault.TheVariants as faults
 use Rattle.word_patterns.specs.Grammar.{IsFaultyWord}
-use Rattle.xades_cli.specs.Asked.{Asked, asked_by}
-use Rattle.xades_cli.specs.Commands.{wants_of, ComesTo, DoneSays}
+use Rattle.command_words.specs.Asked.{Asked, asked_by}
+use Rattle.command_words.specs.Files.{wants_of}
+use Rattle.xades_cli.specs.Commands.{ComesTo, DoneSays}
 use Rattle.xades_cli.specs.Outcomes.{Outcome, Follows}
-use Rattle.xades_cli.specs.Words.{patterns, IsCommand}
+use Rattle.command_words.specs.Words.{patterns, IsCommand}
 use Rattle.xades_cli.specs.declared.status.Status.{Status}
 use Rattle.xades_cli.specs.declared.status.Status.TheVariants.{Done, No, BadWords, NoSuchFile, ReadFault, WriteFault, TooLong, BadDocument, BadPolicy, OutOfMemory}
 

@@ -1,4 +1,6 @@
 -- How a command that stops ends.
+use Rattle.command_words.specs.declared.faults.WordsFault.{WordsFault}
+use Rattle.command_words.specs.declared.faults.WordsFault.TheVariants as words
 use Rattle.whole_files.specs.declared.fault.FileFault.TheVariants as faults
 use Rattle.whole_files.specs.declared.fault.Unread.{Unread}
 use Rattle.whole_files.specs.declared.fault.Unread.TheVariants as unread
@@ -9,6 +11,11 @@ use Rattle.xades_cli.specs.declared.stop.Stop.TheVariants as stops
 use Rattle.xades_cli.specs.declared.status.Ended.{Ended}
 use Rattle.xades_cli.specs.declared.status.Status.{Status}
 use Rattle.xades_cli.specs.declared.status.Status.TheVariants.{BadWords, NoSuchFile, ReadFault, TooLong, BadDocument, BadPolicy, BadData, Refused, OutOfMemory}
+
+-- so do words that ask nothing
+abbrev pub stop_by_words : WordsFault → Stop
+stop_by_words (words.Unfit index) = stops.Words index
+stop_by_words words.OutOfMemory = stops.OutOfMemory
 
 -- a file that wasn't read stops the command
 abbrev pub stop_unread : Unread → Stop

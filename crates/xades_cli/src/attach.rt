@@ -1,21 +1,19 @@
 // Items that are attached to a document.
-ghost use Rattle.std.specs.Prelude.{◌≡◌, ◌≤◌, ◌++◌, ◌∷◌, [], List, ℕ, length, map, IfOk, OnOk};
-ghost use Rattle.document_model.specs.Documents.{fault};
+ghost use Rattle.std.specs.Prelude.{◌≡◌, ◌≤◌, ◌++◌, ◌∷◌, [], List, ℕ, length, map, IfOk, Ok, OnOk};
 ghost use Rattle.policy_rules.specs.View.{rules};
 ghost use Rattle.reference_chains.specs.HandedIn.{handed_in};
 ghost use Rattle.signature_checks.specs.Opening.{AreShort};
 ghost use Rattle.whole_files.specs.Wants.{AreFor, held_of};
-ghost use Rattle.xades_cli.specs.Attach.{IsAttached, IsAttachedOf, attach_by, attach_outcome, items_of, items_outcome, kind_of};
-ghost use Rattle.xades_cli.specs.Attaching.{attach_wants, attaches_of};
-ghost use Rattle.xades_cli.specs.Outcomes.{IsOf};
-ghost use Rattle.xades_cli.specs.Prepare.{TextSays, unless_faulty};
-ghost use Rattle.xades_cli.specs.Signing.{handed_by};
+ghost use Rattle.xades_cli.specs.Attach.{IsAttached, IsAttachedOf, IsAttachOutcome, IsItemsOutcome, IsOutcomeBy, items_of, kind_of};
+ghost use Rattle.xades_cli.specs.Computed.{IsResultOf};
+ghost use Rattle.command_words.specs.Attaching.{attach_wants, attaches_of};
+ghost use Rattle.xades_cli.specs.Handing.{handed_by};
 
 use crate::answers::Answer;
-use crate::attaching::Attachment;
 use crate::prepare::policy_by;
 use crate::stop::{Refusal, Stop};
 use augmenter::{Item, ItemKind, Refusal as Refused, attach};
+use command_words::Attachment;
 use policy_rules::Policy;
 use references::Externals;
 use std::alloc::Global;
@@ -35,6 +33,9 @@ fn kind_of(role: Role) -> Option<ItemKind>
 {
     match role {
         Role::Value => Some(ItemKind::Value),
+        Role::Stamp => Some(ItemKind::Stamp),
+        Role::Data => Some(ItemKind::Material),
+        Role::Archive => Some(ItemKind::Archive),
         _ => None,
     }
 }
@@ -74,15 +75,15 @@ fn write_attached(
     document: &[u8],
     items: &[Item],
     policy: &Policy,
+    at: i64,
     externals: &Externals,
 ) -> Result<Answer, Stop>
     requires document { length document.now ≤ 16777216 }
     requires items { length items.now ≤ 64 }
     requires handed { AreShort (handed_in externals.now) }
-    ensures outcome { IsOf (unless_faulty document.now (fault document.now) (items_outcome (rules policy.now) (handed_in externals.now) items.now document.now)) result }
-    ensures says { TextSays (IsAttachedOf items.now document.now) result }
+    ensures { IsResultOf (IsItemsOutcome (rules policy.now) (handed_in externals.now) at items.now document.now) (IsAttachedOf items.now document.now) result }
 {
-    match attach(alloc, document, items, policy, externals) {
+    match attach(alloc, document, items, policy, at, externals) {
         Ok(text) => Ok(Answer::Text(text)),
         Err(Refused::BadDocument(fault)) => Err(Stop::Refusal(Refusal::Document {
             fault,
@@ -102,8 +103,7 @@ fn take_and_write(
 ) -> Result<Answer, Stop>
     requires few { length (attaches_of asked.now).items ≤ 64 }
     requires read { AreFor (attach_wants (attaches_of asked.now)) (map held_of files.items) }
-    ensures outcome { IsOf (attach_by (map held_of files.entry.items) (rules policy.now)) result }
-    ensures says { TextSays (IsAttached (map held_of files.entry.items)) result }
+    ensures { IsResultOf (IsOutcomeBy (Ok (rules policy.now)) (attaches_of asked.now).at (map held_of files.entry.items)) (IsAttached (map held_of files.entry.items)) result }
 {
     let document = files.remove(0);
     let taken = match take(alloc, files) {
@@ -115,6 +115,7 @@ fn take_and_write(
         document.bytes.as_slice(),
         taken.items.as_slice(),
         policy,
+        asked.at,
         &taken.externals,
     )
 }
@@ -128,8 +129,7 @@ pub fn attach_items(
 ) -> Result<Answer, Stop>
     requires few { length (attaches_of asked.now).items ≤ 64 }
     requires read { AreFor (attach_wants (attaches_of asked.now)) (map held_of files.items) }
-    ensures outcome { IsOf (attach_outcome (map held_of files.entry.items)) result }
-    ensures says { TextSays (IsAttached (map held_of files.entry.items)) result }
+    ensures { IsResultOf (IsAttachOutcome (attaches_of asked.now).at (map held_of files.entry.items)) (IsAttached (map held_of files.entry.items)) result }
 {
     let policy = match policy_by(alloc, policy_of(files.as_slice())) {
         Ok(policy) => policy,

@@ -6,10 +6,10 @@ ghost use Rattle.whole_files.specs.Wants.{held_of};
 ghost use Rattle.word_patterns.specs.Grammar.{text_now};
 ghost use Rattle.word_patterns.specs.TextForms.{is_time};
 ghost use Rattle.xades_cli.specs.Prepare.{certificates_of, draft_of, with_certificates, with_references};
-ghost use Rattle.xades_cli.specs.Preparing.{prepares_of};
+ghost use Rattle.command_words.specs.Preparing.{prepares_of};
 
-use crate::preparing::Preparation;
 use augmenter::Draft;
+use command_words::Preparation;
 use std::alloc::Global;
 use utc_times::read_time;
 use whole_files::File;

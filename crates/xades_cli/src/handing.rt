@@ -2,7 +2,7 @@
 ghost use Rattle.std.specs.Prelude.{◌≡◌, ℕ, List, map, IfOk};
 ghost use Rattle.reference_chains.specs.HandedIn.{handed_in};
 ghost use Rattle.whole_files.specs.Wants.{held_of};
-ghost use Rattle.xades_cli.specs.Signing.{handed_by};
+ghost use Rattle.xades_cli.specs.Handing.{handed_by};
 
 use references::Externals;
 use std::alloc::Global;

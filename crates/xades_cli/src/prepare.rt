@@ -10,16 +10,17 @@ ghost use Rattle.reference_chains.specs.HandedIn.{handed_in};
 ghost use Rattle.whole_files.specs.Wants.{AreFor, held_of};
 ghost use Rattle.augmenter.specs.Preparing.{IsReady};
 ghost use Rattle.xades_cli.specs.Outcomes.{Outcome, IsOf, RefusesData};
-ghost use Rattle.xades_cli.specs.Prepare.{IsPrepared, IsPreparedOf, TextSays, bad_certificate, bad_in, bad_seen, by_policy, by_rules, draft_outcome, prepare_outcome, unless_faulty};
-ghost use Rattle.xades_cli.specs.Preparing.{IsPreparable, prepare_wants, prepares_of};
+ghost use Rattle.xades_cli.specs.Prepare.{IsPrepared, IsPreparedOf, TextSays, bad_certificate, bad_in, bad_seen, by_rules, draft_outcome, prepare_outcome};
+ghost use Rattle.xades_cli.specs.Stages.{by_policy, unless_faulty};
+ghost use Rattle.command_words.specs.Preparing.{IsPreparable, prepare_wants, prepares_of};
 
 use crate::answers::Answer;
 use crate::documents::read_document;
 use crate::drafting::draft_by;
 use crate::handing::hand_in;
-use crate::preparing::Preparation;
 use crate::stop::{Refusal, Stop};
 use augmenter::{Draft, Refusal as Refused, prepare};
+use command_words::Preparation;
 use policy_rules::{Policy, PolicyFault, read_policy};
 use references::Externals;
 use std::alloc::Global;
@@ -29,9 +30,9 @@ use xa_io::{Name, OutOfMemory};
 
 // A file that isn't one whole certificate: its name, and the place of the first bad element.
 #[derive(Clone, Copy)]
-struct BadFile<'f> {
-    name: &'f str,
-    at: u64,
+pub(crate) struct BadFile<'f> {
+    pub(crate) name: &'f str,
+    pub(crate) at: u64,
 }
 
 // The policy of a text, or why it is none.
@@ -81,7 +82,7 @@ fn bad_certificate<'f>(files: &'f [File<'_>]) -> Option<BadFile<'f>>
 }
 
 // Why a command stops that has a bad file, unless its document has a fault.
-fn stop_by_file(alloc: Global, document: &[u8], bad: BadFile<'_>) -> Stop
+pub(crate) fn stop_by_file(alloc: Global, document: &[u8], bad: BadFile<'_>) -> Stop
     requires { length document.now ≤ 16777216 }
     ensures { IsOf (unless_faulty document.now (fault document.now) (RefusesData bad.entry.name.now bad.entry.at)) (Err result) }
 {

@@ -2,6 +2,7 @@
 ghost use Rattle.std.specs.Prelude.{◌≡◌};
 
 use augmenter::Code;
+use command_words::WordsFault;
 use doc_spans::DocFault;
 use policy_rules::PolicyFault;
 use whole_files::{FileFault, Unread};
@@ -40,6 +41,19 @@ impl From<OutOfMemory> for Stop {
 
     fn from(_error: OutOfMemory) -> Stop {
         Stop::OutOfMemory
+    }
+}
+
+impl From<WordsFault> for Stop {
+    ghost use Rattle.xades_cli.specs.Stops.{stop_by_words};
+
+    ghost from_gives = { λ fault stop. stop ≡ stop_by_words fault };
+
+    fn from(fault: WordsFault) -> Stop {
+        match fault {
+            WordsFault::Unfit { index } => Stop::Words { index },
+            WordsFault::OutOfMemory => Stop::OutOfMemory,
+        }
     }
 }
 

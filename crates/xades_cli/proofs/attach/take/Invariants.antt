@@ -2,7 +2,7 @@ use Rattle.std.proofs.Common.{◌≡◌, ℕ, List, map}
 use Rattle.reference_chains.specs.HandedIn.{handed_in}
 use Rattle.whole_files.specs.Wants.{held_of}
 use Rattle.xades_cli.specs.Attach.{items_of}
-use Rattle.xades_cli.specs.Signing.{handed_by}
+use Rattle.xades_cli.specs.Handing.{handed_by}
 use Rattle.xades_cli.proofs.attach.take.Given as goal
 
 -- what was taken so far is what the files so far give

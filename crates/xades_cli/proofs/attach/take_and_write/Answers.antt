@@ -1,12 +1,10 @@
-use Rattle.std.proofs.Common.{◌≡◌, ◌≤◌, ◌∷◌, ◌++◌, length, map, sym, subst}
-use Rattle.document_model.specs.Documents.{fault}
+use Rattle.std.proofs.Common.{◌≡◌, ◌≤◌, ◌∷◌, ◌++◌, length, map, sym, subst, rules as known, SFits, w64, to_z-of_z}
 use Rattle.policy_rules.specs.View.{rules}
 use Rattle.reference_chains.specs.HandedIn.{handed_in}
-use Rattle.xades_cli.specs.Attach.{items_outcome}
-use Rattle.xades_cli.specs.Attaching.{attaches_of, item_want}
-use Rattle.xades_cli.specs.Outcomes.{IsOf}
-use Rattle.xades_cli.specs.Prepare.{unless_faulty}
-use Rattle.xades_cli.specs.Wanting.{document_want, external_want, policy_want}
+use Rattle.xades_cli.specs.Attach.{IsAttachedOf, IsItemsOutcome}
+use Rattle.xades_cli.specs.Computed.{IsResultOf}
+use Rattle.command_words.specs.Attaching.{attaches_of, item_want}
+use Rattle.command_words.specs.Wanting.{document_want, external_want, policy_want}
 use Rattle.xades_cli.proofs.AttachLemmas.{IsAtHand, few, outcome}
 use Rattle.xades_cli.proofs.CommandLemmas.{first_removed, some_file}
 use Rattle.xades_cli.proofs.HandingLemmas.{handed_short}
@@ -32,8 +30,9 @@ write_attached-requires-clause-items c =
 pub write_attached-requires-clause-handed : goal.write_attached-requires-clause-handed
 write_attached-requires-clause-handed c = handed_short (handed_in c.in-Ok.taken.externals) c.remove-document.new.self.items c.in-Ok.ensures.externals
 
-pub returns-clause-outcome : goal.returns-clause-outcome
-returns-clause-outcome c =
+pub returns : goal.returns
+returns c =
+    let range : SFits w64 c.args.asked.now.at = search known in
     let asked = attaches_of c.args.asked.now in
     let first = c.remove-document.result in
     let handed = handed_in c.in-Ok.taken.externals in
@@ -47,7 +46,7 @@ returns-clause-outcome c =
       same = c.in-Ok.ensures.externals;
       items_are = c.in-Ok.ensures.items;
     } in
-    outcome asked c.args.files.items first c.remove-document.new.self.items handed c.in-Ok.taken.items.items hand (rules c.args.policy.now) c.as_slice.result.now c.write_attached.result
+    outcome asked c.args.files.items first c.remove-document.new.self.items handed c.in-Ok.taken.items.items hand (rules c.args.policy.now) asked.at c.as_slice.result.now c.write_attached.result
     c.as_slice.ensures.value
-    (subst (λ all. IsOf (unless_faulty c.as_slice.result.now (fault c.as_slice.result.now) (items_outcome (rules c.args.policy.now) handed all c.as_slice.result.now)) c.write_attached.result)
-    c.as_slice-2.ensures.value c.write_attached.ensures.outcome)
+    (subst (λ all. IsResultOf (IsItemsOutcome (rules c.args.policy.now) handed asked.at all c.as_slice.result.now) (IsAttachedOf all c.as_slice.result.now) c.write_attached.result)
+    c.as_slice-2.ensures.value (subst (λ m. IsResultOf (IsItemsOutcome (rules c.args.policy.now) handed m c.as_slice-2.result.now c.as_slice.result.now) (IsAttachedOf c.as_slice-2.result.now c.as_slice.result.now) c.write_attached.result) (to_z-of_z range) c.write_attached.ensures))

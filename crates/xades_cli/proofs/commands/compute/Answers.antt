@@ -3,21 +3,22 @@ use Rattle.std.specs.Prelude.{Err}
 use Rattle.reference_chains.specs.HandedIn.{handed_in}
 use Rattle.whole_files.specs.Wants.{AreFor, held_of, document_of}
 use Rattle.word_patterns.specs.Grammar.{text_now}
-use Rattle.xades_cli.specs.Asked.{asked_of, form_of, option_now}
-use Rattle.xades_cli.specs.Wanting.{document_want, external_want}
+use Rattle.command_words.specs.Asked.{asked_of, form_of, option_now}
+use Rattle.command_words.specs.Wanting.{document_want, external_want}
+use Rattle.xades_cli.specs.Commands.{ComesTo, DoneSays}
 use Rattle.xades_cli.specs.Outcomes.{IsOf}
-use Rattle.xades_cli.specs.Attaching.{attaches_of}
-use Rattle.xades_cli.specs.Preparing.{prepares_of}
-use Rattle.xades_cli.specs.Signing.{octets_outcome}
+use Rattle.command_words.specs.Preparing.{prepares_of}
+use Rattle.xades_cli.specs.Octets.{octets_outcome}
 use Rattle.xades_cli.specs.declared.stop.Stop.TheVariants as stops
-use Rattle.xades_cli.proofs.CommandLemmas.{canon_computed, first_read, first_removed, memory_wanted, octets_computed, attach_computed, prepare_computed, some_file}
+use Rattle.xades_cli.proofs.CommandLemmas.{canon_computed, first_read, first_removed, octets_computed, prepare_computed, some_file}
+use Rattle.xades_cli.proofs.Computing.{memory_wanted}
 use Rattle.xades_cli.proofs.HandingLemmas.{handed_short}
 use Rattle.xades_cli.proofs.commands.compute.Goals as goal
 
 pub returns-in_err-externals-in-Octets : goal.returns-in_err-externals-in-Octets
 returns-in_err-externals-in-Octets c =
     let memory : c.from_residual.result ≡ Err stops.OutOfMemory = search rules in
-    memory_wanted (asked_of c.args.command.now) (map held_of c.args.files.items) c.from_residual.result memory
+    memory_wanted (ComesTo (asked_of c.args.command.now) (map held_of c.args.files.items)) (DoneSays (asked_of c.args.command.now) (map held_of c.args.files.items)) c.from_residual.result memory
 
 pub returns-in-Canon : goal.returns-in-Canon
 returns-in-Canon c =
@@ -30,14 +31,14 @@ returns-in_ok-externals-in-Octets c =
     let whole : c.args.files.items ≡ c.remove-document.result ∷ c.remove-document.new.self.items
     = rw c.remove-document.ensures.items (first_removed c.args.files.items c.remove-document.result (some_file (document_want c.in-Octets.document.now) (map external_want (map text_now c.in-Octets.externals.items)) c.args.files.items read) c.remove-document.ensures.value) in
     let held : map held_of c.args.files.items ≡ held_of c.remove-document.result ∷ map held_of c.remove-document.new.self.items = rw whole refl in
-    let computed : IsOf (octets_outcome (handed_in c.in_ok-externals-in-Octets.externals) c.remove-document.result.bytes) c.octets_to_sign.result = rw (← c.as_slice-in-Octets.ensures.value) c.octets_to_sign.ensures in
-    rw c.in-Octets.is (octets_computed c.in-Octets.document.now (map text_now c.in-Octets.externals.items) (map held_of c.args.files.items) (held_of c.remove-document.result) (map held_of c.remove-document.new.self.items)
-    (handed_in c.in_ok-externals-in-Octets.externals) c.octets_to_sign.result held
+    let computed : IsOf (octets_outcome c.in-Octets.purpose (handed_in c.in_ok-externals-in-Octets.externals) c.remove-document.result.bytes) c.write_octets.result = rw (← c.as_slice-in-Octets.ensures.value) c.write_octets.ensures in
+    rw c.in-Octets.is (octets_computed c.in-Octets.document.now c.in-Octets.purpose (map text_now c.in-Octets.externals.items) (map held_of c.args.files.items) (held_of c.remove-document.result) (map held_of c.remove-document.new.self.items)
+    (handed_in c.in_ok-externals-in-Octets.externals) c.write_octets.result held
     (first_read (document_want c.in-Octets.document.now) (map external_want (map text_now c.in-Octets.externals.items)) (map held_of c.args.files.items) (held_of c.remove-document.result) (map held_of c.remove-document.new.self.items) held read)
     c.in_ok-externals-in-Octets.ensures computed)
 
-pub octets_to_sign-requires-clause-externals : goal.octets_to_sign-requires-clause-externals
-octets_to_sign-requires-clause-externals c =
+pub write_octets-requires-clause-externals : goal.write_octets-requires-clause-externals
+write_octets-requires-clause-externals c =
     handed_short (handed_in c.in_ok-externals-in-Octets.externals) c.remove-document.new.self.items c.in_ok-externals-in-Octets.ensures
 
 pub returns-in-Prepare : goal.returns-in-Prepare
@@ -46,6 +47,7 @@ returns-in-Prepare c =
     (prepare_computed (prepares_of c.in-Prepare.preparation) (map held_of c.args.files.items) c.prepare_document.result c.prepare_document.ensures.outcome c.prepare_document.ensures.says)
 
 pub returns-in-Attach : goal.returns-in-Attach
-returns-in-Attach c =
-    rw c.in-Attach.is
-    (attach_computed (attaches_of c.in-Attach.attachment) (map held_of c.args.files.items) c.attach_items.result c.attach_items.ensures.outcome c.attach_items.ensures.says)
+returns-in-Attach c = rw c.in-Attach.is c.attach_items.ensures
+
+pub returns-in-Validate : goal.returns-in-Validate
+returns-in-Validate c = rw c.in-Validate.is c.validate_document.ensures

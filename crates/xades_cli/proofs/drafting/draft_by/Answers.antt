@@ -7,7 +7,7 @@ use Rattle.utc_times.specs.TimeText.{time_of}
 use Rattle.whole_files.specs.Wants.{held_of}
 use Rattle.word_patterns.specs.Grammar.{text_now}
 use Rattle.xades_cli.specs.Prepare.{certificates_of, with_certificates, with_references}
-use Rattle.xades_cli.proofs.TimeTexts.{time_back, time_once, time_within}
+use Rattle.time_texts.proofs.TextsOfTimes.{time_back, time_once, time_within}
 use Rattle.xades_cli.proofs.drafting.draft_by.Goals as goal
 
 pub new-requires : goal.new-requires

@@ -1,7 +1,7 @@
 use Rattle.std.proofs.Common.{◌≡◌, ℕ, List, map}
 use Rattle.reference_chains.specs.HandedIn.{handed_in}
 use Rattle.whole_files.specs.Wants.{held_of}
-use Rattle.xades_cli.specs.Signing.{handed_by}
+use Rattle.xades_cli.specs.Handing.{handed_by}
 use Rattle.xades_cli.proofs.handing.hand_in.Given as goal
 
 -- what was handed in so far is what the files so far give

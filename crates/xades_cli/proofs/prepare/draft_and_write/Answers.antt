@@ -4,8 +4,8 @@ use Rattle.reference_chains.specs.HandedIn.{handed_in}
 use Rattle.whole_files.specs.Wants.{held_of}
 use Rattle.policy_rules.specs.View.{rules}
 use Rattle.xades_cli.specs.Prepare.{certificates_of, draft_of}
-use Rattle.xades_cli.specs.Preparing.{names_file, prepares_of}
-use Rattle.xades_cli.specs.Wanting.{certificate_want, document_want, external_want, policy_want}
+use Rattle.command_words.specs.Preparing.{names_file, prepares_of}
+use Rattle.command_words.specs.Wanting.{certificate_want, document_want, external_want, policy_want}
 use Rattle.xades_cli.proofs.CommandLemmas.{first_removed, some_file}
 use Rattle.xades_cli.proofs.PrepareLemmas.{IsAtHand, drafted, is_handed_in, is_ready, says}
 use Rattle.xades_cli.proofs.prepare.draft_and_write.Goals as goal

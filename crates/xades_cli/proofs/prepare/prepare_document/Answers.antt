@@ -1,6 +1,6 @@
 use Rattle.std.proofs.Common.{map, ap, ◌∙◌}
 use Rattle.whole_files.specs.Wants.{held_of, policy_of}
-use Rattle.xades_cli.specs.Preparing.{prepares_of}
+use Rattle.command_words.specs.Preparing.{prepares_of}
 use Rattle.xades_cli.proofs.PrepareLemmas.{refused_policy}
 use Rattle.xades_cli.proofs.prepare.prepare_document.Goals as goal
 

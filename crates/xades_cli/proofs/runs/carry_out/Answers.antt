@@ -4,10 +4,10 @@ use Rattle.xa_io.specs.Shelf.{Files}
 use Rattle.whole_files.specs.Asking.{AsksInOrder}
 use Rattle.whole_files.specs.Faults.{counts_of}
 use Rattle.whole_files.specs.Wants.{names_of}
-use Rattle.xades_cli.specs.Asked.{asked_by}
-use Rattle.xades_cli.specs.Commands.{wants_of}
+use Rattle.command_words.specs.Asked.{asked_by}
+use Rattle.command_words.specs.Files.{wants_of}
 use Rattle.xades_cli.specs.Judging.{IsJudged, IsJudgedRight, IsAnswered, HasStopCause}
-use Rattle.xades_cli.specs.Words.{IsCommand}
+use Rattle.command_words.specs.Words.{IsCommand}
 use Rattle.xades_cli.proofs.RunLemmas.{answered, stopped, sized}
 use Rattle.xades_cli.proofs.runs.carry_out.Goals as goal
 

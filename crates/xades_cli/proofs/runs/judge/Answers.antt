@@ -4,8 +4,9 @@ use Rattle.whole_files.specs.Wants.{AreFor, AreHeld, held_of, names_of, want_of}
 use Rattle.whole_files.proofs.PlanLemmas.{asks_none}
 use Rattle.xades_cli.specs.Judging.{IsJudged}
 use Rattle.xades_cli.specs.Stops.{stop_unread}
-use Rattle.xades_cli.specs.Asked.{asked_by}
-use Rattle.xades_cli.specs.Commands.{IsComputed, wants_of}
+use Rattle.command_words.specs.Asked.{asked_by}
+use Rattle.command_words.specs.Files.{wants_of}
+use Rattle.xades_cli.specs.Commands.{IsComputed}
 use Rattle.xades_cli.proofs.RunLemmas.{judged_by, judged_right, unread_judged}
 use Rattle.xades_cli.proofs.runs.judge.Goals as goal
 

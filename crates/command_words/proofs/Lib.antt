@@ -1,0 +1,2 @@
+pub mod MakerLemmas
+pub mod WordLemmas

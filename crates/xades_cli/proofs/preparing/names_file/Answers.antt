@@ -1,5 +1,0 @@
-use Rattle.xades_cli.proofs.MakerLemmas.{no_name}
-use Rattle.xades_cli.proofs.preparing.names_file.Goals as goal
-
-pub returns-in-None : goal.returns-in-None
-returns-in-None c = no_name c.args.uri.now c.in-None.ensures.chars

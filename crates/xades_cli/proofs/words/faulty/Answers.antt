@@ -1,5 +1,0 @@
-use Rattle.xades_cli.proofs.WordLemmas.{all_good}
-use Rattle.xades_cli.proofs.words.faulty.Goals as goal
-
-pub faulty_word-requires-clause-good : goal.faulty_word-requires-clause-good
-faulty_word-requires-clause-good c = all_good
