@@ -182,6 +182,6 @@ impl Scene {
         if document.len() > 100_000 || items.len() > 64 {
             return Err(Fail::new("too many"));
         }
-        Ok(attach(self.alloc, document, items, &policy, &externals))
+        Ok(attach(self.alloc, document, items, &policy, END, &externals))
     }
 }
