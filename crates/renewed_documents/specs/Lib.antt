@@ -1,0 +1,4 @@
+pub mod Growing
+pub mod Renewing
+pub mod OnBytes
+pub mod Files
