@@ -6,4 +6,6 @@ mod Preparation
 mod Outcomes
 mod OneItem
 mod Steps
+mod Renewing
+mod Files
 pub mod OneAnswer

@@ -163,11 +163,13 @@ is_free handed doc opened is = record { read = is.read; free = no_number _ _ is.
 no_such : {A : Type 0} {x : A} → None ≡ Some x → ⊥
 no_such e = cc
 
+pub passed_all : (rules : Rules) (handed : Handed) (moment : ℤ) (item : Item) (bytes : List ℕ) (signature : Spot) → answer is_whole (document_of bytes) ≡ Read signature
+    → IsItemCode rules handed moment item bytes None → all_tests rules handed moment item bytes signature None
+passed_all rules handed moment item bytes signature is code = subst (λ a. of_read (all_tests rules handed moment item bytes) a None) is code.1
+
 pub passed_tests : (rules : Rules) (handed : Handed) (moment : ℤ) (item : Item) (bytes : List ℕ) (signature : Spot) → answer is_whole (document_of bytes) ≡ Read signature
     → IsItemCode rules handed moment item bytes None → item_test rules handed moment item (document_of bytes) signature None
-passed_tests rules handed moment item bytes signature is code =
-    let all : all_tests rules handed moment item bytes signature None = subst (λ a. of_read (all_tests rules handed moment item bytes) a None) is code.1 in
-    all.0
+passed_tests rules handed moment item bytes signature is code = (passed_all rules handed moment item bytes signature is code).0
 
 pub record IsReadBy (document : Nodes) : Type 0 where
   pub signature : Spot

@@ -21,12 +21,12 @@ use Rattle.signature_model.specs.Readable.{Answer, Read, NoSignature, Several, S
 use Rattle.signature_model.specs.Spots.{Spot}
 use Rattle.signature_checks.specs.declared.objections.Objection.{Objection}
 use Rattle.signature_checks.specs.declared.objections.Objection.TheVariants.{Found, OutOfMemory}
-use Rattle.augmenter.specs.Attaching.{ArePassed, FilesHold, IsAttachment, IsFirstRefused, file_at, with_all}
+use Rattle.augmenter.specs.Attaching.{ArePassed, IsAttachment, IsFirstRefused, file_at, with_all}
 use Rattle.augmenter.specs.Findings.{IsFoundIn}
 use Rattle.augmenter.specs.Items.{IsItemCode, item_in, by_signature, with_one}
 use Rattle.augmenter.specs.Judging.{refusal_by}
 use Rattle.augmenter.specs.declared.items.Item.{Item}
-use Rattle.augmenter.proofs.OneItem.{gives, may_take, passed_tests, read_by, whole_item}
+use Rattle.augmenter.proofs.OneItem.{gives, may_take, passed_tests, whole_item}
 
 -- one item has passed on some bytes
 pub record IsStep (rules : Rules) (handed : Handed) (moment : ℤ) (item : Item) (bytes : List ℕ) : Type 0 where
@@ -137,7 +137,7 @@ extends_all (item ∷ items) bytes = extends_through bytes (with_one item bytes)
 
 -- What an item that has passed has shown of the signature that is read.
 
-accepted : (rules : Rules) (handed : Handed) (moment : ℤ) (signature : Spot) (item : Item) (bytes : List ℕ) → IsReadFile is_whole signature bytes → IsStep rules handed moment item bytes
+pub accepted : (rules : Rules) (handed : Handed) (moment : ℤ) (signature : Spot) (item : Item) (bytes : List ℕ) → IsReadFile is_whole signature bytes → IsStep rules handed moment item bytes
     → IsAccepted is_whole signature bytes (item_in item)
 accepted rules handed moment signature item bytes r s =
     let tests = passed_tests rules handed moment item bytes signature r.is_read.read s.code in record {
@@ -146,7 +146,7 @@ accepted rules handed moment signature item bytes r s =
       fits = ap fault (sym (gives item bytes signature r.is_read.read)) ∙ s.fits;
     }
 
-read_on : (rules : Rules) (handed : Handed) (moment : ℤ) (signature : Spot) (item : Item) (bytes : List ℕ) → IsReadFile is_whole signature bytes → IsStep rules handed moment item bytes
+pub read_on : (rules : Rules) (handed : Handed) (moment : ℤ) (signature : Spot) (item : Item) (bytes : List ℕ) → IsReadFile is_whole signature bytes → IsStep rules handed moment item bytes
     → IsReadFile is_whole signature (with_one item bytes)
 read_on rules handed moment signature item bytes r s =
     subst (IsReadFile is_whole signature) (sym (gives item bytes signature r.is_read.read))
@@ -178,7 +178,7 @@ are_same rules handed moment signature (item ∷ items) bytes r s =
     by_number given rest zero = refl
     by_number given rest (suc i) = ap (with_all (take i items)) given ∙ rest i
 
-each_two : (rules : Rules) (handed : Handed) (moment : ℤ) (signature : Spot) (items : List Item) (bytes : List ℕ) → IsReadFile is_whole signature bytes → AreSteps rules handed moment items bytes
+pub each_two : (rules : Rules) (handed : Handed) (moment : ℤ) (signature : Spot) (items : List Item) (bytes : List ℕ) → IsReadFile is_whole signature bytes → AreSteps rules handed moment items bytes
     → (i j : ℕ) → i ≤ j → Holds is_whole signature (file_at items bytes i) (file_at items bytes j)
 each_two rules handed moment signature items bytes r s i j l =
     let same = are_same rules handed moment signature items bytes r s in
@@ -194,7 +194,7 @@ one_adds handed signature item bytes r a some =
     ∙ files_cover is_whole handed signature bytes (item_in item ∷ []) r (a, tt) (some, tt)
     ∙ ap (λ entries. covers handed (document_of bytes) signature ++ entries) (append-nil (entries_of handed (document_of bytes) signature (item_in item)))
 
-each_adds : (rules : Rules) (by : Handed) (moment : ℤ) (handed : Handed) (signature : Spot) (items : List Item) (bytes : List ℕ) → IsReadFile is_whole signature bytes
+pub each_adds : (rules : Rules) (by : Handed) (moment : ℤ) (handed : Handed) (signature : Spot) (items : List Item) (bytes : List ℕ) → IsReadFile is_whole signature bytes
     → AreSteps rules by moment items bytes → (i : ℕ) (item : Item) → slice_get items i ≡ Some item → IsSomething (item_in item)
     → covers handed (document_of (file_at items bytes (suc i))) signature
     ≡ covers handed (document_of (file_at items bytes i)) signature ++ entries_of handed (document_of (file_at items bytes i)) signature (item_in item)
@@ -208,15 +208,3 @@ each_adds rules by moment handed signature (first ∷ items) bytes r s zero item
     same_item e = cc
 each_adds rules by moment handed signature (first ∷ items) bytes r s (suc i) item e some =
     each_adds rules by moment handed signature items (with_one first bytes) (read_on rules by moment signature first bytes r s.0) s.1 i item e some
-
-pub files_hold : (rules : Rules) (handed : Handed) (moment : ℤ) (items : List Item) (bytes : List ℕ) → fault bytes ≡ None → AreSteps rules handed moment items bytes → FilesHold items bytes
-files_hold rules handed moment [] bytes right s some = absurd (omega (arith, some))
-files_hold rules handed moment (item ∷ items) bytes right s some =
-    let is = read_by rules handed moment item bytes s.0.code in
-    let r : IsReadFile is_whole is.signature bytes = record { right = right; is_read = is.free } in (
-      is.signature,
-      record {
-        hold = each_two rules handed moment is.signature (item ∷ items) bytes r s;
-        add = λ more i x e f. each_adds rules handed moment more is.signature (item ∷ items) bytes r s i x e f;
-      },
-    )

@@ -5,6 +5,7 @@ use Rattle.covered_items.specs.Entries.{IsSomething, entries_of}
 use Rattle.document_model.specs.Documents.{document_of, fault}
 use Rattle.policy_rules.specs.Rules.{Rules}
 use Rattle.qualifying_props.specs.Whole.{is_whole}
+use Rattle.renewed_documents.specs.OnBytes.{Renews}
 use Rattle.signature_checks.specs.declared.codes.Code.{Code}
 use Rattle.signature_model.specs.Chains.{Handed}
 use Rattle.signature_model.specs.Covers.{covers}
@@ -12,6 +13,7 @@ use Rattle.signature_model.specs.Spots.{Spot}
 use Rattle.augmenter.specs.Answers.{IsFaultyDocument}
 use Rattle.augmenter.specs.Items.{IsItemCode, item_in, with_one}
 use Rattle.augmenter.specs.declared.items.Item.{Item}
+use Rattle.augmenter.specs.declared.items.ItemKind.TheVariants.{Archive}
 use Rattle.augmenter.specs.declared.refusals.Refusal.{Refusal}
 use Rattle.augmenter.specs.declared.refusals.Refusal.TheVariants.{BadDocument, Refused, OutOfMemory}
 
@@ -55,17 +57,22 @@ AnswersAreOne = (rules : Rules) (handed : Handed) (moment : ℤ) (items : List I
     → ¬ (result ≡ Err OutOfMemory) → ¬ (other ≡ Err OutOfMemory)
     → IsAttachment rules handed moment items bytes result → IsAttachment rules handed moment items bytes other → result ≡ other
 
--- What the files have that the items give one after another, of which the one with number 0 is the first document.
-pub record AreFiles (items : List Item) (bytes : List ℕ) (signature : Spot) : Type 0 where
+-- What the files have that the items give one after another, of which the one with number 0 is the first document, by the octets that are
+-- handed in.
+pub record AreFiles (handed : Handed) (items : List Item) (bytes : List ℕ) (signature : Spot) : Type 0 where
   -- Of each two of them: both are read with the same signature, which is free; what it covers in the later one is what it covers in the
   -- earlier one and more behind; and the later one is the earlier one with bytes put in.
   pub hold : (i j : ℕ) → i ≤ j → Holds is_whole signature (file_at items bytes i) (file_at items bytes j)
   -- And in the next one it covers more just what the item is over in the file that it is put into: a time-stamp what the next one of its kind
-  -- covers.
-  pub add : (handed : Handed) (i : ℕ) (item : Item) → slice_get items i ≡ Some item → IsSomething (item_in item)
-      → covers handed (document_of (file_at items bytes (suc i))) signature
-      ≡ covers handed (document_of (file_at items bytes i)) signature ++ entries_of handed (document_of (file_at items bytes i)) signature (item_in item)
+  -- covers. Whatever is handed in.
+  pub add : (any : Handed) (i : ℕ) (item : Item) → slice_get items i ≡ Some item → IsSomething (item_in item)
+      → covers any (document_of (file_at items bytes (suc i))) signature
+      ≡ covers any (document_of (file_at items bytes i)) signature ++ entries_of any (document_of (file_at items bytes i)) signature (item_in item)
+  -- A time-stamp on the archive renews the file that it is put into: by each policy, what is yes there at the time that its token proves is
+  -- yes in the next one at each moment from then on at which the token is accepted.
+  pub renew : (i : ℕ) (item : Item) → slice_get items i ≡ Some item → item.kind ≡ Archive
+      → Renews is_whole handed (file_at items bytes i) (file_at items bytes (suc i)) signature item.bytes
 
 -- so it is with one signature, where there is an item
-abbrev pub FilesHold : List Item → List ℕ → Type 0
-FilesHold items bytes = 1 ≤ length items → (signature : Spot) × AreFiles items bytes signature
+abbrev pub FilesHold : Handed → List Item → List ℕ → Type 0
+FilesHold handed items bytes = 1 ≤ length items → (signature : Spot) × AreFiles handed items bytes signature

@@ -203,7 +203,7 @@ pub fn attach(
     ensures answer { IsAttachment (rules policy.now) (handed_in externals.now) at items.now bytes.now result }
     // The new document holds the old one, and all that its signature covers.
     ensures extends { IfOk result (Extends bytes.now) }
-    ensures hold { OnOk result (FilesHold items.now bytes.now) }
+    ensures hold { OnOk result (FilesHold (handed_in externals.now) items.now bytes.now) }
 {
     let mut steps: Steps<Attaching> = Steps::new();
     let mut live = match read(alloc, bytes, &mut steps) {

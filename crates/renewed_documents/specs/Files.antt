@@ -1,4 +1,4 @@
--- The law of renewal on files.
+-- The law of renewal on files. This project's own, over EN 319 132-1, clause 5.5.
 use Rattle.std.specs.Prelude.{◌≡◌, ℕ, Bool, List, None}
 use Rattle.document_model.specs.Documents.{fault, document_of}
 use Rattle.signature_model.specs.Spots.{Spot}

@@ -1,4 +1,4 @@
--- The law of renewal on the bytes of documents.
+-- The law of renewal on the bytes of documents. This project's own, over EN 319 132-1, clause 5.5.
 use Rattle.std.specs.Prelude.{◌≡◌, ℕ, Bool, List, [], ℤ, ◌≤ℤ◌}
 use Rattle.document_model.specs.Documents.{document_of}
 use Rattle.policy_rules.specs.Rules.{Rules}

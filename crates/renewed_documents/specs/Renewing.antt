@@ -1,4 +1,4 @@
--- The law of renewal: an archive time-stamp that a signature takes keeps its verdict.
+-- The law of renewal: an archive time-stamp that a signature takes keeps its verdict. This project's own, over EN 319 132-1, clause 5.5.
 use Rattle.std.specs.Prelude.{◌≡◌, ℕ, Bool, true, nat_le, List, [], ℤ, ◌≤ℤ◌}
 use Rattle.base64.specs.GeneralPurpose.{IsBytes}
 use Rattle.document_model.specs.Tree.{Nodes}

@@ -159,8 +159,8 @@ module _ (asked : Attaches) (files : List File) (file : File) (others : List Fil
           omega (arith, same, as_rest, few_rest, small)
 
   pub outcome : (rules : Rules) (at : ℤ) (document : List ℕ) (result : Result Answer Stop) → document ≡ file.bytes
-      → IsResultOf (IsItemsOutcome rules handed at items document) (IsAttachedOf items document) result
+      → IsResultOf (IsItemsOutcome rules handed at items document) (IsAttachedOf handed items document) result
       → IsResultOf (IsOutcomeBy (Ok rules) at (map held_of files)) (IsAttached (map held_of files)) result
   outcome rules at document result own of =
       let whole = own ∙ bytes in
-      subst (λ (all : Handed × List Item × List ℕ). IsResultOf (IsItemsOutcome rules all.0 at all.1 all.2) (IsAttachedOf all.1 all.2) result) (λ i. (given i, all_items i, whole i)) of
+      subst (λ (all : Handed × List Item × List ℕ). IsResultOf (IsItemsOutcome rules all.0 at all.1 all.2) (IsAttachedOf all.0 all.1 all.2) result) (λ i. (given i, all_items i, whole i)) of

@@ -58,10 +58,11 @@ abbrev pub IsAttachOutcome : (at : ℤ) → List Held → Outcome → Type 0
 IsAttachOutcome at held outcome = IsOutcomeBy (texts.policy_of (policy_of held)) at held outcome
 
 -- New bytes that hold a document's. Of any two files that the items give one after another, both are read with the same free signature, and
--- what it covers in the earlier one is a front of what it covers in the later one.
-pub record IsAttachedOf (items : List Item) (bytes new : List ℕ) : Type 0 where
+-- what it covers in the earlier one is a front of what it covers in the later one; and a time-stamp on the archive keeps the yes of the file
+-- that it is put into, by the octets that are handed in.
+pub record IsAttachedOf (handed : Handed) (items : List Item) (bytes new : List ℕ) : Type 0 where
   pub extends : Extends bytes new
-  pub hold : FilesHold items bytes
+  pub hold : FilesHold handed items bytes
 
 abbrev pub IsAttached : List Held → List ℕ → Type 0
-IsAttached held new = IsAttachedOf (items_of held) (files.document_of held) new
+IsAttached held new = IsAttachedOf (handed_by held) (items_of held) (files.document_of held) new

@@ -81,7 +81,7 @@ fn write_attached(
     requires document { length document.now ≤ 16777216 }
     requires items { length items.now ≤ 64 }
     requires handed { AreShort (handed_in externals.now) }
-    ensures { IsResultOf (IsItemsOutcome (rules policy.now) (handed_in externals.now) at items.now document.now) (IsAttachedOf items.now document.now) result }
+    ensures { IsResultOf (IsItemsOutcome (rules policy.now) (handed_in externals.now) at items.now document.now) (IsAttachedOf (handed_in externals.now) items.now document.now) result }
 {
     match attach(alloc, document, items, policy, at, externals) {
         Ok(text) => Ok(Answer::Text(text)),

@@ -4,7 +4,8 @@ use Rattle.document_model.specs.Insertion.{Extends}
 use Rattle.policy_rules.specs.View.{rules}
 use Rattle.reference_chains.specs.HandedIn.{handed_in}
 use Rattle.augmenter.specs.Attaching.{IsAttachment, with_all}
-use Rattle.augmenter.proofs.Steps.{AreSteps, attached_on, extends_all, files_hold, front_passed, refused_answer}
+use Rattle.augmenter.proofs.Files.{files_hold}
+use Rattle.augmenter.proofs.Steps.{AreSteps, attached_on, extends_all, front_passed, refused_answer}
 use Rattle.augmenter.proofs.attaching.attach.Goals as goal
 
 pub returns-in-Err-attach_one-clause-answer : goal.returns-in-Err-attach_one-clause-answer

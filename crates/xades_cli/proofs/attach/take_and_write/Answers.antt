@@ -48,5 +48,5 @@ returns c =
     } in
     outcome asked c.args.files.items first c.remove-document.new.self.items handed c.in-Ok.taken.items.items hand (rules c.args.policy.now) asked.at c.as_slice.result.now c.write_attached.result
     c.as_slice.ensures.value
-    (subst (λ all. IsResultOf (IsItemsOutcome (rules c.args.policy.now) handed asked.at all c.as_slice.result.now) (IsAttachedOf all c.as_slice.result.now) c.write_attached.result)
-    c.as_slice-2.ensures.value (subst (λ m. IsResultOf (IsItemsOutcome (rules c.args.policy.now) handed m c.as_slice-2.result.now c.as_slice.result.now) (IsAttachedOf c.as_slice-2.result.now c.as_slice.result.now) c.write_attached.result) (to_z-of_z range) c.write_attached.ensures))
+    (subst (λ all. IsResultOf (IsItemsOutcome (rules c.args.policy.now) handed asked.at all c.as_slice.result.now) (IsAttachedOf handed all c.as_slice.result.now) c.write_attached.result)
+    c.as_slice-2.ensures.value (subst (λ m. IsResultOf (IsItemsOutcome (rules c.args.policy.now) handed m c.as_slice-2.result.now c.as_slice.result.now) (IsAttachedOf handed c.as_slice-2.result.now c.as_slice.result.now) c.write_attached.result) (to_z-of_z range) c.write_attached.ensures))
