@@ -4,6 +4,7 @@
 //! - `hss TREE ONE_TIME COUNT`, `xmss SET COUNT`, `xmssmt SET COUNT`: signatures of no one are judged so often.
 //! - `sha256 COUNT`: so many bare hashes.
 //! - `root SET IDX STEP`: the root to which a signature of XMSS^MT leads.
+//! - `verify KIND KEY MESSAGE SIGNATURE`: whether a signature of a kind, `hss`, `xmss` or `xmssmt`, holds; octets in hexadecimal.
 //! - `upwards COUNT`, `downwards COUNT`: the earliest times over 64 stamps are found so often.
 //! - `strangers COUNT`, `insiders COUNT`: those over so many certificates of an opponent are found once.
 //! - `certificate`, `list`, `token`: an object of the made-up world in hexadecimal.
@@ -11,6 +12,7 @@
 
 mod failed;
 mod hashing;
+mod judging;
 mod objects;
 mod opponents;
 mod stamps_case;
@@ -58,6 +60,7 @@ fn line(alloc: Global, kind: &str, words: &[String]) -> Result<String, Failed> {
             let idx = number(words, 2);
             Ok(hashing::root_of_many_trees(alloc, small(words, 1), idx, small(words, 3))?)
         }
+        "verify" => judging::judge(alloc, words),
         "upwards" | "downwards" | "strangers" | "insiders" => {
             times::found(alloc, kind, count(words, 1))
         }
