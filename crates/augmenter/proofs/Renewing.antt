@@ -68,7 +68,7 @@ none_later time handed document signature before (property ∷ list) e stamped h
     (Contains-append_cases (cond (parts.is_stamp property) (stamp_of handed document signature before property ∷ []) []) (stamps_from handed document signature (before ++ property ∷ []) list) stamped h)
   where
     by_kind : (find (int_lt time) (times document (filter parts.is_stamp list)) ≡ None → Contains (stamps_from handed document signature (before ++ property ∷ []) list) stamped
-            → gen_time stamped.token ≤ℤ time)
+        → gen_time stamped.token ≤ℤ time)
         → (b : Bool) → find (int_lt time) (times document (cond b (property ∷ filter parts.is_stamp list) (filter parts.is_stamp list))) ≡ None
         → Contains (cond b (stamp_of handed document signature before property ∷ []) []) stamped ⊎ Contains (stamps_from handed document signature (before ++ property ∷ []) list) stamped → gen_time stamped.token ≤ℤ time
     by_kind others true f (inl this) =
