@@ -5,6 +5,7 @@ mod DigestBytes
 mod Preparation
 mod Outcomes
 mod OneItem
+mod ValidityStays
 mod Steps
 mod Renewing
 mod Files

@@ -24,9 +24,10 @@ use Rattle.signature_checks.specs.declared.objections.Objection.TheVariants.{Fou
 use Rattle.augmenter.specs.Attaching.{ArePassed, IsAttachment, IsFirstRefused, file_at, with_all}
 use Rattle.augmenter.specs.Findings.{IsFoundIn}
 use Rattle.augmenter.specs.Items.{IsItemCode, item_in, by_signature, with_one}
-use Rattle.augmenter.specs.Judging.{refusal_by}
+use Rattle.augmenter.specs.Judging.{IsValid, refusal_by}
 use Rattle.augmenter.specs.declared.items.Item.{Item}
 use Rattle.augmenter.proofs.OneItem.{gives, may_take, passed_tests, whole_item}
+use Rattle.augmenter.proofs.ValidityStays.{validity_stays}
 
 -- one item has passed on some bytes
 pub record IsStep (rules : Rules) (handed : Handed) (moment : ℤ) (item : Item) (bytes : List ℕ) : Type 0 where
@@ -56,6 +57,7 @@ pub record Attached (rules : Rules) (handed : Handed) (moment : ℤ) (items : Li
   pub none : fault live ≡ None
   pub small : length live ≤ 16777216
   pub right : fault bytes ≡ None
+  pub valid : 0 < n → IsValid rules handed (document_of live)
 
 pub attached_starts : (rules : Rules) (handed : Handed) (moment : ℤ) (items : List Item) (bytes live : List ℕ) → live ≡ bytes → fault live ≡ None → length bytes ≤ 16777216
     → Attached rules handed moment items bytes live 0
@@ -65,6 +67,7 @@ attached_starts rules handed moment items bytes live e none small = record {
   none = none;
   small = subst (λ b. length b ≤ 16777216) (sym e) small;
   right = subst (λ b. fault b ≡ None) e none;
+  valid = λ l. absurd (omega (arith, l));
 }
 
 pub attached_on : (rules : Rules) (handed : Handed) (moment : ℤ) (items : List Item) (bytes live new : List ℕ) (n : ℕ) (d item : Item) → n < length items → item ≡ get_or items n d
@@ -82,6 +85,8 @@ attached_on rules handed moment items bytes live new n d item within is code put
       none = none;
       small = small;
       right = h.right;
+      valid = λ l. subst (λ b. IsValid rules handed (document_of b)) (sym put)
+          (validity_stays rules handed moment item live h.none code octets (ap fault (sym put) ∙ none));
     }
 
 -- No test stands against those that have passed.

@@ -1,11 +1,15 @@
 -- What is found of one item, step by step. This project's own.
 use Rattle.std.specs.Prelude.{◌≡◌, ℕ, ℤ, ◌≤◌, List, length, None, Result, Ok, Err}
 use Rattle.document_model.specs.Documents.{document_of, fault}
+use Rattle.document_model.specs.Tree.{Nodes}
 use Rattle.doc_spans.specs.declared.documents.Doc.{Doc}
 use Rattle.doc_spans.specs.Seen.{bytes_in, document_in}
 use Rattle.insertions.specs.Live.{longest}
 use Rattle.policy_rules.specs.Rules.{Rules}
+use Rattle.qualifying_props.specs.Whole.{is_whole}
+use Rattle.signature_checks.specs.Codes.{first_code}
 use Rattle.signature_checks.specs.Opening.{IsOpened}
+use Rattle.signature_checks.specs.Validity.{validity_tests}
 use Rattle.signature_checks.specs.declared.objections.Objection.{Objection}
 use Rattle.signature_checks.specs.declared.objections.Objection.TheVariants.{Found, OutOfMemory}
 use Rattle.signature_checks.specs.declared.opening.Opened.{Opened}
@@ -13,6 +17,8 @@ use Rattle.signature_elements.specs.Standing.{spot_of}
 use Rattle.signature_model.specs.Chains.{Handed}
 use Rattle.signature_model.specs.Fragments as model
 use Rattle.signature_model.specs.Fragments.{bytes_with_item}
+use Rattle.signature_model.specs.Parts.{value_octets}
+use Rattle.signature_model.specs.Readable.{Read, answer}
 use Rattle.signature_model.specs.Spots.{Spot}
 use Rattle.stamp_checks.specs.Laws.{IsOfOctets}
 use Rattle.stamp_checks.specs.declared.faults.StampFault.{StampFault}
@@ -25,6 +31,11 @@ use Rattle.augmenter.specs.declared.items.ItemKind.{ItemKind}
 use Rattle.augmenter.specs.declared.items.ItemKind.TheVariants.{Value, Stamp, Material, Archive}
 use Rattle.augmenter.specs.declared.refusals.Refusal.{Refusal}
 use Rattle.augmenter.specs.declared.refusals.Refusal.TheVariants as refusals
+
+-- Nothing stands against what the signature that is read says, by the value that it has.
+abbrev pub IsValid : Rules → Handed → Nodes → Type 0
+IsValid rules handed document = (signature : Spot) → answer is_whole document ≡ Read signature
+    → first_code (validity_tests rules handed document signature (value_octets document signature)) ≡ None
 
 -- the item with a number is refused for it
 abbrev pub refusal_by : ℕ → Objection → Refusal

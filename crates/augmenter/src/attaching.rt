@@ -1,6 +1,6 @@
 //! The attachment of items to a document (XML Signature 1.1, section 3.1.2; EN 319 132-1, clause 5).
 
-ghost use Rattle.std.specs.Prelude.{◌≡◌, ◌≤◌, nat_lt, [], IfOk, IfErr, OnOk, None, length};
+ghost use Rattle.std.specs.Prelude.{◌≡◌, ◌≤◌, true, nat_lt, [], IfOk, IfErr, OnOk, None, length};
 ghost use Rattle.doc_spans.specs.Seen.{document_in};
 ghost use Rattle.signature_model.specs.Readable.{Read, answer};
 ghost use Rattle.base64.specs.GeneralPurpose.{IsBytes};
@@ -21,7 +21,7 @@ ghost use Rattle.signature_objects.specs.Objects.{limited, most_objects};
 ghost use Rattle.augmenter.specs.Attaching.{FilesHold, IsAttachment};
 ghost use Rattle.augmenter.specs.Findings.{IsFoundIn};
 ghost use Rattle.augmenter.specs.Items.{IsItemCode, IsMaterial, put_by, with_one};
-ghost use Rattle.augmenter.specs.Judging.{IsPut, IsSplit, refusal_by};
+ghost use Rattle.augmenter.specs.Judging.{IsPut, IsSplit, IsValid, refusal_by};
 
 use crate::items::{Item, ItemKind};
 use crate::judging::judge;
@@ -130,7 +130,7 @@ fn put_octets(
     }
 }
 
-// Attaches an item to the document, unless a test stands against it.
+// Attaches an item to the document, unless a test stands against it. Whether what the signature says is known to be right is handed in.
 fn attach_one(
     alloc: Global,
     live: &mut LiveDoc,
@@ -138,18 +138,20 @@ fn attach_one(
     policy: &Policy,
     moment: i64,
     externals: &Externals,
+    is_valid: bool,
     steps: &mut Steps<Attaching>,
 ) -> Result<(), Objection>
     requires size { length live.old.bytes ≤ 16777216 }
     requires right { fault live.old.bytes ≡ None }
     requires externals { AreShort (handed_in externals.now) }
+    requires valid { is_valid ≡ true → IsValid (rules policy.now) (handed_in externals.now) (document_of live.old.bytes) }
     ensures code { OnOk result (IsItemCode (rules policy.now) (handed_in externals.now) moment item.now live.old.bytes None) }
     ensures bytes { OnOk result (live.new.bytes ≡ with_one item.now live.old.bytes) }
     ensures small { OnOk result ((length live.new.bytes ≤ 16777216) × (fault live.new.bytes ≡ None)) }
     ensures octets { OnOk result (IsBytes item.now.bytes) }
     ensures err { IfErr result (IsFoundIn (IsItemCode (rules policy.now) (handed_in externals.now) moment item.now live.old.bytes)) }
 {
-    let opened = match judge(alloc, live.doc(), item, policy, moment, externals) {
+    let opened = match judge(alloc, live.doc(), item, policy, moment, externals, is_valid) {
         Ok(opened) => opened,
         Err(objection) => return Err(objection),
     };
@@ -211,6 +213,8 @@ pub fn attach(
         Err(refusal) => return Err(refusal),
     };
     for number in 0..items.len() {
+        // Whatever an accepted item puts in leaves what the signature says right.
+        let is_valid = number > 0;
         match attach_one(
             alloc,
             &mut live,
@@ -218,6 +222,7 @@ pub fn attach(
             policy,
             at,
             externals,
+            is_valid,
             &mut steps,
         ) {
             Ok(()) => {}

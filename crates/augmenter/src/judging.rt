@@ -1,6 +1,6 @@
 //! What stands against an item before it is put in.
 
-ghost use Rattle.std.specs.Prelude.{◌≡◌, ◌≤◌, Ok, Some, length};
+ghost use Rattle.std.specs.Prelude.{◌≡◌, ◌≤◌, Ok, Some, length, true};
 ghost use Rattle.doc_spans.specs.declared.documents.Doc.{Doc};
 ghost use Rattle.doc_spans.specs.Seen.{bytes_in, document_in};
 ghost use Rattle.policy_rules.specs.View.{rules};
@@ -13,7 +13,7 @@ ghost use Rattle.signature_checks.specs.Validity.{validity_tests};
 ghost use Rattle.signature_elements.specs.Standing.{spot_of};
 ghost use Rattle.augmenter.specs.Findings.{IsFoundIn, IsTested, exactly};
 ghost use Rattle.augmenter.specs.Items.{complete_test, material_test, octets_test, shape_test, signature_tests, signed_tests, stamp_code, stamp_test, value_tests};
-ghost use Rattle.augmenter.specs.Judging.{IsJudged, IsObjectionBy};
+ghost use Rattle.augmenter.specs.Judging.{IsJudged, IsObjectionBy, IsValid};
 
 use crate::items::{Item, ItemKind};
 use archive_octets::StampKind;
@@ -74,19 +74,24 @@ fn judge_value(
     judge_said(alloc, doc, opened, value, policy, externals)
 }
 
-// The tests on a signature that has a value.
+// The tests on a signature that has a value. What it says isn't judged again where it is known to be right.
 fn judge_signed(
     alloc: Global,
     doc: Doc<'_>,
     opened: &Opened,
     policy: &Policy,
     externals: &Externals,
+    is_valid: bool,
 ) -> Result<(), Objection>
-    requires { IsOpened (handed_in externals.now) doc opened.now }
+    requires opened { IsOpened (handed_in externals.now) doc opened.now }
+    requires valid { is_valid ≡ true → IsValid (rules policy.now) (handed_in externals.now) (document_in doc) }
     ensures { IsTested (exactly (first_code (signed_tests (rules policy.now) (handed_in externals.now) (document_in doc.entry) (spot_of doc.entry opened.now.parts.signature)))) result }
 {
     if !is_signed(doc, &opened.parts) {
         return Err(Objection::Found(Code::NotSigned));
+    }
+    if is_valid {
+        return Ok(());
     }
     let value = opened.parts.value();
     judge_said(alloc, doc, opened, value, policy, externals)
@@ -100,17 +105,19 @@ fn judge_signature(
     item: &Item,
     policy: &Policy,
     externals: &Externals,
+    is_valid: bool,
 ) -> Result<(), Objection>
-    requires { IsOpened (handed_in externals.now) doc opened.now }
+    requires opened { IsOpened (handed_in externals.now) doc opened.now }
+    requires valid { is_valid ≡ true → IsValid (rules policy.now) (handed_in externals.now) (document_in doc) }
     ensures { IsTested (exactly (first_code (signature_tests item.now.kind item.now.bytes (rules policy.now) (handed_in externals.now) (document_in doc.entry) (spot_of doc.entry opened.now.parts.signature)))) result }
 {
     match item.kind {
         ItemKind::Value => {
             judge_value(alloc, doc, opened, item.bytes.as_slice(), policy, externals)
         }
-        ItemKind::Stamp => judge_signed(alloc, doc, opened, policy, externals),
-        ItemKind::Material => judge_signed(alloc, doc, opened, policy, externals),
-        ItemKind::Archive => judge_signed(alloc, doc, opened, policy, externals),
+        ItemKind::Stamp => judge_signed(alloc, doc, opened, policy, externals, is_valid),
+        ItemKind::Material => judge_signed(alloc, doc, opened, policy, externals, is_valid),
+        ItemKind::Archive => judge_signed(alloc, doc, opened, policy, externals, is_valid),
     }
 }
 
@@ -272,7 +279,8 @@ fn judge_octets(
     }
 }
 
-// The tests on an item that is to be put into the document at a moment: the signature, where none stands against it.
+// The tests on an item that is to be put into the document at a moment: the signature, where none stands against it. Whether what the
+// signature says is known to be right is handed in.
 pub(crate) fn judge(
     alloc: Global,
     doc: Doc<'_>,
@@ -280,16 +288,18 @@ pub(crate) fn judge(
     policy: &Policy,
     moment: i64,
     externals: &Externals,
+    is_valid: bool,
 ) -> Result<Opened, Objection>
     requires document { length (bytes_in doc) ≤ 16777216 }
     requires externals { AreShort (handed_in externals.now) }
+    requires valid { is_valid ≡ true → IsValid (rules policy.now) (handed_in externals.now) (document_in doc) }
     ensures { IsJudged (rules policy.now) (handed_in externals.now) moment item.now doc.entry result }
 {
     let opened = match open(alloc, doc, externals) {
         Ok(opened) => opened,
         Err(objection) => return Err(objection),
     };
-    match judge_signature(alloc, doc, &opened, item, policy, externals) {
+    match judge_signature(alloc, doc, &opened, item, policy, externals, is_valid) {
         Ok(()) => {}
         Err(objection) => return Err(objection),
     }

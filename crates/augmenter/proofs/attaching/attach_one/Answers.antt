@@ -1,13 +1,26 @@
-use Rattle.std.proofs.Common.{None, subst, to_z-of_z}
-use Rattle.doc_spans.specs.Seen.{bytes_in, document_in}
+use Rattle.std.proofs.Common.{None, subst, sym, to_z-of_z}
+use Rattle.attached_items.specs.ReadAgain.{IsReadFree}
+use Rattle.document_model.specs.Documents.{document_of}
+use Rattle.doc_spans.specs.Seen.{bytes_in, document_in, shown_in}
 use Rattle.item_contents.specs.Kept.{spot_in}
 use Rattle.policy_rules.specs.View.{rules}
+use Rattle.qualifying_props.specs.Whole.{is_whole}
 use Rattle.reference_chains.specs.HandedIn.{handed_in}
 use Rattle.signature_elements.specs.Standing.{spot_of}
 use Rattle.augmenter.specs.Findings.{IsFoundIn}
 use Rattle.augmenter.specs.Items.{IsItemCode, item_test, put_by}
-use Rattle.augmenter.proofs.OneItem.{code_passed, code_refused, may_in, put_gives, put_small, split_in, whole_in}
+use Rattle.augmenter.specs.Judging.{IsValid}
+use Rattle.augmenter.proofs.OneItem.{along, code_passed, code_refused, is_free, may_in, put_gives, put_small, split_in, whole_in}
 use Rattle.augmenter.proofs.attaching.attach_one.Goals as goal
+
+pub judge-requires-clause-valid : goal.judge-requires-clause-valid
+judge-requires-clause-valid c known =
+    subst (λ b. IsValid (rules c.args.policy.now) (handed_in c.args.externals.now) (document_of b)) (sym c.doc.ensures.bytes) (c.requires.valid known)
+
+pub put_octets-requires-clause-read : goal.put_octets-requires-clause-read
+put_octets-requires-clause-read c =
+    along (λ b t. IsReadFree is_whole (document_of b) (spot_in b t c.in-Ok.opened.parts.signature)) (bytes_in c.doc.result) c.args.live.now.bytes (shown_in c.doc.result) c.args.live.now.tree
+    c.doc.ensures.bytes c.doc.ensures.tree (is_free (handed_in c.args.externals.now) c.doc.result c.in-Ok.opened c.in-Ok.ensures.0)
 
 pub put_octets-requires-clause-whole : goal.put_octets-requires-clause-whole
 put_octets-requires-clause-whole c =
